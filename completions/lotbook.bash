@@ -6,8 +6,8 @@ _lotbook_words="init migrate post import holdings gains journal dump restore ver
 _lotbook_codes="N1 N2 N3 N4 M1 M2 M3 M4 M5 I1 B1 B2 B3 B4 B5 B6"
 _lotbook_codes+=" L1 L2 L3 L4 L5 L6 L7 L8 L9 L10 L11 L12 L13 L14 L15 L16"
 _lotbook_codes+=" X1 X2 X3 X4 X5 X6 X7 D1 D2 D3 D4 C1 C2 C3 C4 C5"
-_lotbook_codes+=" C6 C7 C8 S1 S2 S3 S4 S5 S6 S7 S8 P1 P2 P3 U1 U2"
-_lotbook_codes+=" K1 K2 Memory open"
+_lotbook_codes+=" C6 C7 S1 S2 S3 S4 S5 S6 S7 S8 P1 P2 P3 U1 U2 K1"
+_lotbook_codes+=" K2 Memory open"
 
 # _lotbook_options WORD: prints the options of a word, or of a call without one.
 _lotbook_options() {

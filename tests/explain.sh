@@ -102,6 +102,20 @@ while read -r code name; do
     if [[ -s $scratch/answer && -z $found ]]; then pass "$code: the accepted example"; else fail "$code: the accepted example" "codes $found"; fi
 done <"$scratch/codes"
 
+# The causes of C2 that docs/FORMATS.md lists by a profile, and some of those of a broker file.
+{
+    awk '/^NoTable, TwoTables / { on = 1 } on && /^```/ { exit } on { print substr($0, 1, 23) }' "$root/docs/FORMATS.md" | tr -d , | tr ' ' '\n' | grep .
+    printf '%s\n' Ref Date Action Symbol Units Price Currency Fee Lot
+} >"$scratch/causes"
+while read -r cause; do
+    run explain "$cause" </dev/null
+    if ((status == 0)) && [[ $(grep -c "^C2 BadRow $cause: " "$scratch/out") == 1 && $(tail -n 2 "$scratch/out") == "Read on: docs/FORMATS.md, Faults"* ]]; then
+        pass "the cause $cause"
+    else
+        fail "the cause $cause" "status $status, and $(head -n 1 "$scratch/out")"
+    fi
+done <"$scratch/causes"
+
 # Other words.
 "$program" explain B2 >"$scratch/one" 2>/dev/null </dev/null
 for word in b2 Ambiguous ambiguous AMBIGUOUS; do
@@ -114,7 +128,7 @@ if ((status == 0)) && [[ $(grep -cE '^(I1|L11|P1) Range: ' "$scratch/out") == 3 
 else
     fail "a name of several codes" "status $status"
 fi
-for words in "L17 L1" "Ambigous Ambiguous" "unknownacount UnknownAccount" "x X1"; do
+for words in "L17 L1" "Ambigous Ambiguous" "unknownacount UnknownAccount" "x X1" "Disagre Disagree"; do
     read -r word nearest <<<"$words"
     run explain "$word" </dev/null
     if ((status == 2)) && [[ ! -s $scratch/out && $(<"$scratch/err") == "lotbook: there is no code '$word'; the nearest is $nearest: "* ]]; then

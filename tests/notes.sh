@@ -346,16 +346,18 @@ lotbook: line 7: X2 Syntax: the line has none of the forms: the line ends too ea
 2024-01-03 price HOOL 0,125 USD
 2024-01-03 price HOOL 100,125 USD
 lotbook: line 1: warning: FIFO is read as a currency: the method of an account stands in quotes: 2024-01-01 open Assets:First FIFO
-lotbook: line 3: warning: 111,64 is read as 11164: decimals stand behind a point: Assets:Broker 1,000 HOOL {111,64 USD}
-lotbook: line 6: warning: -0,500 is read as -500: decimals stand behind a point: Assets:Cash -0,500 USD
-lotbook: line 8: warning: 0,125 is read as 125: decimals stand behind a point: 2024-01-03 price HOOL 0,125 USD
+lotbook: line 3: warning: 1,000 is read as 1000: commas are skipped, decimals stand behind a point: Assets:Broker 1,000 HOOL {111,64 USD}
+lotbook: line 4: warning: -11,164,000.0 is read as -11164000: commas are skipped, decimals stand behind a point: Assets:Cash -11,164,000.0 USD
+lotbook: line 6: warning: -0,500 is read as -500: commas are skipped, decimals stand behind a point: Assets:Cash -0,500 USD
+lotbook: line 8: warning: 0,125 is read as 125: commas are skipped, decimals stand behind a point: 2024-01-03 price HOOL 0,125 USD
+lotbook: line 9: warning: 100,125 is read as 100125: commas are skipped, decimals stand behind a point: 2024-01-03 price HOOL 100,125 USD
 == 1 rows refused rows
 ref,date,action,symbol,units,price,currency,fee
 D-1,2024-01-15,BUY,HOOL,10,102.50,USD,4.95
 D-2,2024-01-16,BUY,HOOL,10,103.50,USD,4.95
 "D-3",2024-02-16,SELL,HOOL,5,"1,103.50",USD,4.95
 lotbook: row 3 (D-3): B2 Ambiguous: several lots fit the braces, and STRICT doesn't choose among them: lots that fit now: 2, with 20 units; they differ in day, cost: "D-3",2024-02-16,SELL,HOOL,5,"1,103.50",USD,4.95
-lotbook: row 3 (D-3): warning: price 1,103.50 is read as 1103.5: commas are skipped, decimals stand behind a point: "D-3",2024-02-16,SELL,HOOL,5,"1,103.50",USD,4.95
+lotbook: row 3 (D-3): warning: price 1,103.50 is read as 1103.5: commas are skipped, decimals stand behind a point; try --all-or-none --dry-run first, or a profile that says what the comma is: "D-3",2024-02-16,SELL,HOOL,5,"1,103.50",USD,4.95
 == 3 rows faulty rows
 ref,date,action,symbol,units,price,currency,fee
 D-1,2024-01-15,BUY,HOOL,10,102.50,USD,4.95
@@ -399,7 +401,7 @@ lotbook: row 1 (D-9): B4 IncompleteCost: the braces open a lot, and don't give i
 lotbook: row 3 (D-3): L10 BackDated: a later day of this account and commodity is booked at cost already: the latest is 2024-02-15, of entry 5: D-3,2024-01-15,BUY,HOOL,5,102.50,USD,4.95
 lotbook: row 4 (D-2): L1 KeyReused: another command has this key already: entry 5, with the line `2024-02-15 * "D-2"` in place of `2024-01-15 * "D-2"`: D-2,2024-01-15,BUY,HOOL,6,102.50,USD,4.95
 lotbook: warning: the first row is of 2024-03-15, the last of 2024-01-15: rows stand in the order of their days, the oldest first
-lotbook: row 1 (D-9): warning: price 102,50 is read as 10250: commas are skipped, decimals stand behind a point: D-9,2024-03-15,SELL,HOOL,10,"102,50",USD,4.95
+lotbook: row 1 (D-9): warning: price 102,50 is read as 10250: commas are skipped, decimals stand behind a point; try --all-or-none --dry-run first, or a profile that says what the comma is: D-9,2024-03-15,SELL,HOOL,10,"102,50",USD,4.95
 lotbook: row 4 (D-2): warning: row 2 has this ref, too: a deal is known by it, so this one is a repeat or refused: D-2,2024-01-15,BUY,HOOL,6,102.50,USD,4.95
 == 0 rows rows without a fault
 ref,date,action,symbol,units,price,currency,fee
@@ -408,16 +410,16 @@ D-2,2024-01-16,BUY,HOOL,1010,103.50,USD,4.95
 == 0 rows a comma before three decimals
 ref,date,action,symbol,units,price,currency,fee
 D-1,2024-01-15,BUY,FUND,3,"605,007",EUR,
-lotbook: row 1 (D-1): warning: price 605,007 is read as 605007: commas are skipped, decimals stand behind a point: D-1,2024-01-15,BUY,FUND,3,"605,007",EUR,
+lotbook: row 1 (D-1): warning: price 605,007 is read as 605007: commas are skipped, decimals stand behind a point; try --all-or-none --dry-run first, or a profile that says what the comma is: D-1,2024-01-15,BUY,FUND,3,"605,007",EUR,
 == 0 rows a comma in each column, in several rows
 ref,date,action,symbol,units,price,currency,fee,lot
 D-1,2024-01-15,BUY,HOOL,10,"605,007",EUR,,
 D-2,2024-01-16,BUY,HOOL,"1,000","6,5",EUR,"4,95",
 "D,3",2024-01-17,BUY,HOOL,"2,000.5",6.5,EUR,"0,5","D,3"
 D-4,2024-01-18,BUY,HOOL,10,"6,5",EUR,5,
-lotbook: row 2 (D-2): warning: units 1,000 is read as 1000: commas are skipped, decimals stand behind a point; 1 more row has a comma there: D-2,2024-01-16,BUY,HOOL,"1,000","6,5",EUR,"4,95",
-lotbook: row 1 (D-1): warning: price 605,007 is read as 605007: commas are skipped, decimals stand behind a point; 2 more rows have a comma there: D-1,2024-01-15,BUY,HOOL,10,"605,007",EUR,,
-lotbook: row 2 (D-2): warning: fee 4,95 is read as 495: commas are skipped, decimals stand behind a point; 1 more row has a comma there: D-2,2024-01-16,BUY,HOOL,"1,000","6,5",EUR,"4,95",
+lotbook: row 2 (D-2): warning: units 1,000 is read as 1000: commas are skipped, decimals stand behind a point; 1 more row has a comma there; try --all-or-none --dry-run first, or a profile that says what the comma is: D-2,2024-01-16,BUY,HOOL,"1,000","6,5",EUR,"4,95",
+lotbook: row 1 (D-1): warning: price 605,007 is read as 605007: commas are skipped, decimals stand behind a point; 2 more rows have a comma there; try --all-or-none --dry-run first, or a profile that says what the comma is: D-1,2024-01-15,BUY,HOOL,10,"605,007",EUR,,
+lotbook: row 2 (D-2): warning: fee 4,95 is read as 495: commas are skipped, decimals stand behind a point; 1 more row has a comma there; try --all-or-none --dry-run first, or a profile that says what the comma is: D-2,2024-01-16,BUY,HOOL,"1,000","6,5",EUR,"4,95",
 == 3 rows all columns of a row that are faulty
 ref,date,action,symbol,units,price,currency,fee
 D-1,15.01.2024,Kauf,BRK/B,10,"1.102,50",EUR,
@@ -529,7 +531,7 @@ notes "the first ten faulty rows" 3 "${import[@]}"
 {
     echo "lotbook: warning: the first row is of 2024-01-16, the last of 2024-01-15: rows stand in the order of their days, the oldest first"
     echo "lotbook: warning: --from 13 is past the end of 12 rows: none was run"
-    echo 'lotbook: row 2 (D-1): warning: price 1,5 is read as 15: commas are skipped, decimals stand behind a point; 10 more rows have a comma there: D-1,2024-01-15,BUY,HOOL,1,"1,5",USD,'
+    echo 'lotbook: row 2 (D-1): warning: price 1,5 is read as 15: commas are skipped, decimals stand behind a point; 10 more rows have a comma there; try --all-or-none --dry-run first, or a profile that says what the comma is: D-1,2024-01-15,BUY,HOOL,1,"1,5",USD,'
     for n in {2..8}; do
         printf 'lotbook: row %d (D-1): warning: row %d has this ref, too: a deal is known by it, so this one is a repeat or refused: D-1,2024-01-15,BUY,HOOL,1,"1,5",USD,\n' "$n" "$((n - 1))"
     done
@@ -666,6 +668,64 @@ notes "crumbs of rows" 0 "${import[@]}" "${rounding[@]}" --decimals 2
     printf 'lotbook: %s\n' "... and 2 more" "Income:Gains takes -0.048 USD, of 12 rows"
 } >"$scratch/told"
 notes "crumbs of more than ten rows" 0 "${import[@]}" "${rounding[@]}" --decimals 2
+
+# An import by a profile, on a book without the accounts that have this word: refused rows, rows to be left out, and faulty ones.
+profile=$examples/profile
+by_profile() {
+    rm -f "$book"*
+    "$program" init --book "$book" </dev/null >/dev/null 2>&1 &&
+        grep -v -- "$3" "$profile/accounts.ledger" | "$program" post --book "$book" --batch accounts >/dev/null 2>&1 || fail "a book for a case" "it can't be made"
+    run import --book "$book" --batch maple --profile "$scratch/maple.toml" "${@:4}" <"$scratch/in"
+    if ((status == $2)) && cmp -s "$scratch/told" "$scratch/err"; then
+        pass "$1"
+    else
+        fail "$1" "status $status: $(diff "$scratch/told" "$scratch/err" | head -n 6 | cut -c 1-200 | tr '\n' '|')"
+    fi
+}
+# said LINE..: what is to be said, a line each, below the rows that are passed over.
+said() { printf 'lotbook: %s\n' "1 row skipped" "$@" >"$scratch/told"; }
+# faulty LINE: what is to be said of a faulty file.
+faulty() { printf 'lotbook: %s\n' "$1" >"$scratch/told"; }
+dropped="$book: nothing is kept, since not all was accepted: entries and lots are named above as the call would have made them"
+cp "$profile/maple.csv" "$scratch/in"
+cp "$profile/maple.toml" "$scratch/maple.toml"
+said "row 5 (2024-02-02 1 1001): L3 UnknownAccount: no account of this name was opened: Equity:Transfers: the nearest is Equity:Rounding: 02.02.2024 Payment" "$dropped"
+by_profile "a row by a profile whose account isn't open" 1 Transfers
+by_profile "the same, with all that is to be said" 1 Transfers --explain-all
+said "row 1 (2024-06-28 1 1009): left out: 28.06.2024 Custody fee" "no row has a key with the name 2024-06-28 2 1009"
+by_profile "rows by a profile to be left out" 0 nothing --except "2024-06-28 1 1009" --except "2024-06-28 2 1009"
+sed 's/1.038,10/1.028,10/' "$profile/maple.csv" >"$scratch/in"
+faulty "row 3 (03.05.2024 Sale ALV 4): units x price with the fee come to 1038.10, the amount is 1028.10: 10.00 apart: a column may be another, a fee have another sign, or a number be rounded, which \`rounded\` says"
+by_profile "numbers that disagree" 3 nothing
+sed 's/^05.02.2024;Purchase;ALV;10/&00000000000/' "$profile/maple.csv" >"$scratch/in"
+faulty "row 4 (05.02.2024 Purchase ALV 1000000000000): units is too large: \`1000000000000\`"
+by_profile "a number that is too large" 3 nothing
+sed 's/^02.02.2024.*EUR/&x/' "$profile/maple.csv" >"$scratch/in"
+faulty "row 5 (02.02.2024 Payment): currency is no commodity, as USD is: a column may be another, or a constant name it: \`EURx\`"
+by_profile "a currency that is none" 3 nothing
+sed 's/;Value;/;Net;/' "$profile/maple.csv" >"$scratch/in"
+faulty "line 3, blank lines not counted: the column \`Value\` isn't in the header: \`Date;What;Symbol;Pieces;Price;Costs;Net;Currency;No.\`"
+by_profile "a header without a column" 3 nothing
+{ head -n 4 "$profile/maple.csv" && printf 'Z\374rich\n'; } >"$scratch/in"
+faulty 'line 4, blank lines not counted, isn'"'"'t UTF-8: try encoding = "latin-1" in [file]'
+by_profile "an export in another encoding" 3 nothing
+cp "$profile/maple.csv" "$scratch/in"
+grep -v turn "$profile/maple.toml" >"$scratch/maple.toml"
+faulty "row 3 (03.05.2024 Sale ALV 4): sell: units has to be below zero, is 4: \`turn\` names the roles that are printed the other way"
+by_profile "a number with another sign" 3 nothing
+sed 's/Custody fee/begins: Pay/' "$profile/maple.toml" >"$scratch/maple.toml"
+sed 's/Custody fee/Payment/' "$profile/maple.csv" >"$scratch/in"
+faulty "row 1 (28.06.2024 Payment): it is of two kinds of the profile: fee, the [[kind]] 4, and withdrawal, the [[kind]] 6"
+by_profile "a row of two kinds" 3 nothing
+cp "$profile/maple.csv" "$scratch/in"
+sed 's/is = "fee"/is = "by-hand"/' "$profile/maple.toml" >"$scratch/maple.toml"
+printf 'lotbook: %s\n' "row 1 is by hand: --row-of maple --ref '2024-06-28 1 1009'" "1 row skipped" >"$scratch/told"
+by_profile "a row by hand" 0 nothing
+{ cat "$profile/maple.toml" && echo 'is = "skip"'; } >"$scratch/maple.toml"
+run import --book "$book" --batch m --profile "$scratch/maple.toml" <"$scratch/in"
+line=$(wc -l <"$scratch/maple.toml")
+printf 'fault U2 BadValue --profile\nlotbook: %s: line %d is no TOML, or has a key that stands above already\n' "$scratch/maple.toml" "$line" >"$scratch/told"
+if ((status == 2)) && cmp -s "$scratch/told" "$scratch/err"; then pass "a key twice in a profile"; else fail "a key twice in a profile" "status $status: $(tail -n 1 "$scratch/err")"; fi
 
 # Standard error that can't be written changes nothing.
 printf '2020-01-01 open Assets:Cash\n' >"$scratch/in"

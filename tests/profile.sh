@@ -1,8 +1,8 @@
 #!/usr/bin/env bash
 # Profiles by a second reader in Python, tests/profile/reader.py, which was written from the rules of profiles alone: eight made years whose
 # truth tests/profile/world.py kept while they were made, the examples in profiles/, and small cases of faults. tests/profile/program.py
-# compares the program with it, but for files with a split, which it refuses. Where Python has no tomllib (below 3.11) the cases are
-# said to be skipped.
+# compares the program with it. tests/profile/splits.py tries what becomes of splits. Where Python has no tomllib (below 3.11) the cases
+# are said to be skipped.
 source "$(dirname "$(readlink -f "${BASH_SOURCE[0]}")")/lib/cases.sh"
 need_program
 
@@ -23,4 +23,5 @@ judged() {
 
 judged compare.py
 judged program.py "$program"
+judged splits.py "$program"
 finish

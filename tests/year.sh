@@ -62,7 +62,7 @@ import north north.csv --all-or-none
 step "a fraction of a share whose cash doesn't fit" 3 "fault row 2 C4 InexactAmount" \
     "row 2 (N4): C4 InexactAmount: the cash of the row has more than eight decimals, or is too large: 33.704445885 USD, which has 9 decimals" \
     "warning: the first row is of 2024-11-04, the last of 2024-01-15: rows stand in the order of their days, the oldest first" \
-    "row 4 (N2): warning: units 1,000 is read as 1000: commas are skipped, decimals stand behind a point: N2,"
+    "row 4 (N2): warning: units 1,000 is read as 1000: commas are skipped, decimals stand behind a point; try --all-or-none --dry-run first, or a profile that says what the comma is: N2,"
 grep -v ^N4 "$scratch/north.csv" >"$scratch/without.csv"
 import north without.csv --all-or-none
 step "the newest row first" 1 $'1 refused B4 IncompleteCost posting 1\n2 accepted\n3 accepted\n4 refused L10 BackDated posting 1' \
@@ -84,7 +84,7 @@ step "the fraction by hand, the rest as a fee" 0 "1 accepted"
 
 import south south.csv --dry-run
 step "decimal commas" 1 $'1 accepted\n2 accepted\n3 refused B2 Ambiguous posting 1' "row 3 (S3): B2 Ambiguous" \
-    "row 1 (S1): warning: price 111,64 is read as 11164: commas are skipped, decimals stand behind a point; 2 more rows have a comma there: S1,"
+    "row 1 (S1): warning: price 111,64 is read as 11164: commas are skipped, decimals stand behind a point; 2 more rows have a comma there; try --all-or-none --dry-run first, or a profile that says what the comma is: S1,"
 sed 's/"\([0-9]*\),\([0-9]*\)"/\1.\2/' "$scratch/south.csv" >"$scratch/points.csv"
 import south points.csv
 step "a sale whose lot isn't named" 1 $'1 accepted\n2 accepted\n3 refused B2 Ambiguous posting 1' "row 3 (S3): B2 Ambiguous: several lots fit the braces, and STRICT doesn't choose among them: lots that fit now: 2, with 10 units; they differ in day, cost"

@@ -133,7 +133,7 @@ def pieces(ground, whole):
     """Inputs that come in pieces are answered as whole ones. A year comes in thousands: no bound on the calls may be near them."""
     done = sweep.Sweep()
     year = [stored(name) for name in ("year.ledger", "year.expected")]
-    done.compare("a year", "a year by the byte", (year[1], 0), in_pieces(ground, [], [bytes([byte]) for byte in year[0]]))
+    done.compare("a year", "a year by the byte", (year[1], 0), in_pieces(ground, [], [bytes([byte]) for byte in year[0]]), may_warn=True)
     for name, words, text in ground.ways():
         got = ground.call(words, text)
         wanted = got.output, got.status

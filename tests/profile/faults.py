@@ -124,6 +124,9 @@ CASES = [
     ("forms of one number", [], [
         BUY.replace("-1,009.95", text) for text in ("-$1,009.95", "$-1,009.95", "($1,009.95)", "-1009.95", "-1,009.950", "(1009.95)", "-1,009.95 $")
     ], ["  Assets:Cash -1009.95 USD"] * 7),
+    ("the longest sign of a currency", [('["$"]', '["$", "US$", "$US"]')], [
+        BUY.replace("-1,009.95", text) for text in ("-1,009.95 US$", "US$ -1,009.95", "-$US1,009.95", "(US$1,009.95)", "- $ 1,009.95 $US")
+    ], ["  Assets:Cash -1009.95 USD"] * 5),
     ("no digit before the point", [], ["2024-03-05;Dividend;HOOL;;;.5;USD;;D3"], ["  Assets:Cash 0.5 USD"]),
     ("a ninth decimal of units", [], [BUY.replace(";10;", ";10.000000001;")], "row 1 units has more than eight decimals"),
     ("a ninth decimal that is zero", [], [BUY.replace(";10;", ";10.000000000;")], ["10 HOOL"]),
@@ -138,6 +141,16 @@ CASES = [
     ("a day that isn't in the calendar", [], [BUY.replace("2024-03-01", "2024-02-30")], "row 1 day is no day"),
     ("a day with a time", [], [BUY.replace("2024-03-01", each) for each in ("2024-03-01 9:05", "2024-03-01, 09:06:30 EST", "2024-03-01T10:07:00.123Z", "2024-3-1")], ["2024-03-01 * "] * 4),
     ("a day with something else behind", [], [BUY.replace("2024-03-01", "2024-03-01 as of 2024-02-29")], "row 1 day is no day"),
+    ("a time in the morning and one in the afternoon", [('"oldest-first"', '"by-day"')], [
+        DIVIDEND.replace("2024-03-05", f"2024-03-05 {each}") for each in ("1:30 PM", "12:05:59pm.", "9:05", "12:05 am", "11:00AM", "12:01 AMT")
+    ], ["; row 4 ", "; row 3 ", "; row 5 ", "; row 6 ", "; row 2 ", "; row 1 "]),
+    ("the hour 13 in the afternoon", [], [DIVIDEND.replace("2024-03-05", "2024-03-05 13:30 PM")], "row 1 day is no day"),
+    ("the hour 0 in the morning", [('ref = "Id"', 'ref = "Id"\ntime = "Price"')], [DIVIDEND.replace("HOOL;;;", "HOOL;;0:30 AM;")], "row 1 time is no time"),
+    ("a day without signs between", [('"YYYY-MM-DD"', '"YYYYMMDD"')], [BUY.replace("2024-03-01", "20240301T09:05")], ["2024-03-01 * "]),
+    ("a day without signs, of one digit", [('"YYYY-MM-DD"', '"YYYYMMDD"')], [BUY.replace("2024-03-01", "2024112")], "row 1 day is no day"),
+    ("a month without a sign, of one digit", [('"YYYY-MM-DD"', '"DD-MMYYYY"')], [BUY.replace("2024-03-01", "1-32024")], "row 1 day is no day"),
+    ("a day of one digit beside a sign", [('"YYYY-MM-DD"', '"DD-YYYYMM"')], [BUY.replace("2024-03-01", "1-202403")], ["2024-03-01 * "]),
+    ("a day of one digit beside a name", [('"YYYY-MM-DD"', '"DDMonYYYY"')], [BUY.replace("2024-03-01", "1Mar2024")], ["2024-03-01 * "]),
     ("a month by its name", [('"YYYY-MM-DD"', '"DD-Mon-YYYY"')], [BUY.replace("2024-03-01", "01-MAR-2024")], ["2024-03-01 * "]),
     # Signs, and what disagrees.
     ("a purchase with a sign that is wrong", [], [BUY.replace("-1,009.95", "1,009.95")], "row 1 has the signs of no buy"),
@@ -181,7 +194,18 @@ CASES = [
     ("a beginning that is nothing", [('symbol = "Symbol"', 'symbol = { column = "Symbol", until = "(" }')], [BUY.replace("HOOL", "(US1)")], "row 1 symbol has no value"),
     ("a constant", [('currency = "Currency"', 'currency = { is = "EUR" }')], [BUY], ["{{1009.95 EUR}}"]),
     ("numbers of columns", [('currency = "Currency"', "currency = 7"), ('amount = "Amount"', "amount = 6"), ('when = { Kind = "Buy" }', 'when = { 2 = "Buy" }')], [BUY], ["{{1009.95 USD}}"]),
-    ("a column beyond the row", [('ref = "Id"', "ref = 12")], [DIVIDEND], ["key 2024-03-05 1 2024-03-05 Dividend HOOL 8.50 USD D3\n"]),
+    ("a column beyond the header", [('ref = "Id"', "ref = 12")], [DIVIDEND], "row 1 column 12 is not in the header"),
+    ("a tax beyond the header", [('is = "dividend"\n', 'is = "dividend"\ncolumns = { tax = 10 }\n')], [DIVIDEND], "row 1 column 10 is not in the header"),
+    ("a condition beyond the header", [('when = { Kind = "Dividend" }', 'when = { Kind = "Dividend", 10 = "nothing" }')], [DIVIDEND], "row 1 column 10 is not in the header"),
+    ("the last column of the header", [('ref = "Id"', "ref = 9")], [DIVIDEND], ["key 2024-03-05 1 D3\n"]),
+    ("a column beyond the header, and may", [('ref = "Id"', "ref = 12"), ("order =", 'optional = ["12"]\norder =')], [DIVIDEND], ["key 2024-03-05 1 2024-03-05 Dividend HOOL 8.50 USD D3\n"]),
+    ("a column beyond the row", [('ref = "Id"', "ref = 9")], [DIVIDEND.replace(";;D3", "")], ["key 2024-03-05 1 2024-03-05 Dividend HOOL 8.50 USD\n"]),
+    ("a column beyond the row, without a header", [
+        ('header = "Day;Kind"', "header = 0"), ('[columns]\nday = "Day"\nsymbol = "Symbol"\nunits = "Units"\nprice = "Price"\namount = "Amount"\ncurrency = "Currency"\nfee = "Fee"\nref = "Id"', "[columns]\nday = 1\nsymbol = 3\nunits = 4\nprice = 5\namount = 6\ncurrency = 7\nfee = 8\nref = 12"),
+        ("Kind =", "2 ="), ("Kind =", "2 ="), ("Kind =", "2 ="), ("Kind =", "2 ="), ("Kind = \"Cash\", Amount", "2 = \"Cash\", 6"), ("Kind = \"Cash\", Amount", "2 = \"Cash\", 6"), ("Kind =", "2 ="),
+    ], f"{DIVIDEND}\n".encode(), ["key 2024-03-05 1 2024-03-05 Dividend HOOL 8.50 USD D3\n"]),
+    ("a named column without a header", [('header = "Day;Kind"', "header = 0")], [DIVIDEND], "profile columns"),
+    ("an optional column by its number in no key", [('ref = "Id"\n', ""), ("order =", 'optional = ["9"]\norder =')], [DIVIDEND], ["key 2024-03-05 1 2024-03-05 Dividend HOOL 8.50 USD\n"]),
     ("columns that are added", [('amount = "Amount"', 'amount = ["Amount", "Fee"]')], [BUY.replace("-1,009.95", "-1,014.90")], ["{{1009.95 USD}}"]),
     ("a symbol that has another name", [kind_more('[symbols]\n"BRK/B" = "BRK.B"')], [BUY.replace("HOOL", "BRK/B")], ["10 BRK.B {{"]),
     ("a symbol that is no commodity", [], [BUY.replace("HOOL", "BRK/B")], "row 1 symbol is no commodity: BRK/B"),

@@ -4,9 +4,8 @@
 
 Each year goes into a book of its own: both files are imported by the profile, then again, which changes nothing. What is held and what
 was gained has to be the truth; the keys of the book are those of reader.py, as are the rows that are booked. Then come the cases of
-faults.py: where reader.py finds a fault, the program names the same row or the same entry of the profile, and keeps nothing. A file
-with a split is refused at it, as the program doesn't post splits: nothing more of that year is compared. It ends with the line
-`N passed, M failed`.
+faults.py: where reader.py finds a fault, the program names the same row or the same entry of the profile, and keeps nothing. It
+ends with the line `N passed, M failed`.
 """
 
 import csv
@@ -89,15 +88,6 @@ def rows_said(out):
     return {int(line.split()[0]): line.split()[1] for line in out.splitlines() if re.match("[0-9]+ (accepted|repeat|refused)", line)}
 
 
-def first_split(deals):
-    return next((deal for deal in deals if deal.kind == "split"), None)
-
-
-def is_refused_split(program, known, status, out, split):
-    """Whether an export was refused for that split, and nothing of it is kept beside what was known."""
-    return status == 3 and out == f"fault row {split.row.number} C8 Split\n" and set(program.keys()) == known
-
-
 def year(program, name, folder):
     profile_path = f"{folder}/{name}.toml"
     profile = reader.read_profile(compare.load(profile_path))
@@ -108,10 +98,6 @@ def year(program, name, folder):
     known = set()
     for file, truth in truths.items():
         status, out, said = program.take(profile_path, compare.load(f"{folder}/{file}"))
-        split = first_split(reads[file].deals)
-        if split:
-            compare.check(f"{name}: {file}: its split isn't posted", "" if is_refused_split(program, known, status, out, split) else f"status {status}: {(out + said)[:300]}")
-            return
         if status:
             compare.check(f"{name}: {file}", f"status {status}: {(out + said)[:300]}")
             return
@@ -149,10 +135,7 @@ def case(program, name, changes, lines):
     program.start(base, deals)
     status, out, said = program.take(path, data)
     told = f"status {status}: {(out + said)[:300]}"
-    split = first_split(deals)
-    if split:
-        good = is_refused_split(program, set(), status, out, split)
-    elif wanted is None:
+    if wanted is None:
         good = status == 0 and sorted(program.keys()) == sorted(deal.key for deal in deals)
     elif isinstance(wanted, reader.ProfileFault):
         good = status == 2 and (wanted.key == "-" or as_told(wanted.key) in out + said)

@@ -48,7 +48,8 @@ CASH_KINDS = {"tax": "tax", "fee": "fees", "deposit": "transfers", "withdrawal":
 ACCOUNT = re.compile(r"(Assets|Liabilities|Equity|Income|Expenses)(:[A-Z0-9][A-Za-z0-9-]*)+")
 COMMODITY = re.compile(r"[A-Z]([A-Z0-9'._-]{0,22}[A-Z0-9])?")
 DAY_PARTS = {"YYYY": "(?P<y>[0-9]{4})", "MM": "(?P<m>[0-9]{1,2})", "DD": "(?P<d>[0-9]{1,2})", "Mon": "(?P<n>[A-Za-z]{3})"}
-TIME = re.compile(r"([0-9]{1,2}):([0-9]{2})(?::([0-9]{2}))?")
+NUMBER_PARTS = {"YYYY": DAY_PARTS["YYYY"], "MM": "(?P<m>[0-9]{2})", "DD": "(?P<d>[0-9]{2})"}
+TIME = re.compile(r"([0-9]{1,2}):([0-9]{2})(?::([0-9]{2}))?(?:[ \t]*([AaPp])[Mm](?![A-Za-z]))?")
 
 
 class ProfileFault(Exception):
@@ -418,13 +419,21 @@ def check_table(profile, table, prefix):
             raise ProfileFault(f"{prefix}columns", f"{column!r} is a name, and there is no header")
 
 
+def used_columns(table):
+    """The columns that a table's rules use, by name or number, in their order."""
+
+    def of_roles(columns):
+        return [source.column for sources in columns.values() for source in sources]
+
+    columns = of_roles(table.columns) + [column for column, _ in table.rows]
+    for kind in table.kinds:
+        columns += of_roles(kind.columns) + [column for column, _ in kind.when]
+    return list(dict.fromkeys(column for column in columns if column is not None))
+
+
 def named_columns(table):
-    """The names of columns that a table's rules say, in their order."""
-    names = [column for column, _ in table.rows]
-    for columns in [table.columns] + [kind.columns for kind in table.kinds]:
-        names += [source.column for sources in columns.values() for source in sources]
-    names += [column for kind in table.kinds for column, _ in kind.when]
-    return list(dict.fromkeys(name for name in names if isinstance(name, str)))
+    """Those that are named."""
+    return [column for column in used_columns(table) if isinstance(column, str)]
 
 
 # ---- numbers, days, tests of a field
@@ -442,29 +451,29 @@ def number_of(profile, text):
         (r"(?P<whole>[0-9]*|[0-9]{1,3}(?:%s[0-9]{3})+)" % re.escape(profile.grouping) if profile.grouping else r"(?P<whole>[0-9]*)")
         + r"(?:%s(?P<part>[0-9]+))?" % re.escape(profile.decimal)
     )
-    for text, sign in unsigned(profile, text, negative):
-        found = magnitude.fullmatch(text)
-        if found and (found["whole"] or found["part"]):
-            whole = found["whole"].replace(profile.grouping, "") if profile.grouping else found["whole"]
-            value = Fraction(int(whole or "0")) + (Fraction(int(found["part"]), 10 ** len(found["part"])) if found["part"] else 0)
-            return -value if negative or sign == "-" else value
-    return None
+    text, sign = unsigned(profile, text, negative)
+    found = magnitude.fullmatch(text)
+    if not found or not (found["whole"] or found["part"]):
+        return None
+    whole = found["whole"].replace(profile.grouping, "") if profile.grouping else found["whole"]
+    value = Fraction(int(whole or "0")) + (Fraction(int(found["part"]), 10 ** len(found["part"])) if found["part"] else 0)
+    return -value if negative or sign == "-" else value
 
 
 def unsigned(profile, text, in_parentheses):
-    """The ways to take a sign and a sign of a currency off a text."""
-    sign = ""
-    if text[:1] in ("+", "-") and not in_parentheses:
-        sign, text = text[0], text[1:]
-    yield text, sign
-    for mark in profile.signs:
-        if text.startswith(mark):
-            rest, after = text[len(mark) :].lstrip(BLANKS), sign
-            if not sign and not in_parentheses and rest[:1] in ("+", "-"):
-                after, rest = rest[0], rest[1:]
-            yield rest, after
-        if text.endswith(mark):
-            yield text[: -len(mark)].rstrip(BLANKS), sign
+    """A text without its sign and without the longest sign of a currency at each end, and the sign."""
+
+    def split(text):
+        """The sign at the start of a text, and what is behind it."""
+        return (text[0], text[1:].lstrip(BLANKS)) if text[:1] in ("+", "-") and not in_parentheses else ("", text)
+
+    sign, text = split(text)
+    before = [len(mark) for mark in profile.signs if text.startswith(mark)]
+    text = text[max(before, default=0) :].lstrip(BLANKS)
+    if not sign:
+        sign, text = split(text)
+    behind = [len(mark) for mark in profile.signs if text.endswith(mark)]
+    return text[: len(text) - max(behind, default=0)].rstrip(BLANKS), sign
 
 
 def rounded(value):
@@ -472,9 +481,16 @@ def rounded(value):
     return Fraction(round(value * ONE), ONE)
 
 
+def day_pattern(parts):
+    """The pattern of days: two digits of month and day where a number stands right beside them."""
+    numbers = [part in NUMBER_PARTS for part in parts]
+    beside = [before or after for before, after in zip([False] + numbers, numbers[1:] + [False])]
+    return "".join((NUMBER_PARTS if near else DAY_PARTS).get(part) or DAY_PARTS.get(part, re.escape(part)) for part, near in zip(parts, beside))
+
+
 def day_of(profile, text):
     """The day of a field and its time, or None."""
-    found = re.match("".join(DAY_PARTS.get(part, re.escape(part)) for part in profile.day), text)
+    found = re.match(day_pattern(profile.day), text)
     if not found:
         return None
     parts = found.groupdict()
@@ -498,7 +514,12 @@ def time_of(text):
     found = TIME.match(text)
     if not found or int(found[1]) > 23 or int(found[2]) > 59 or int(found[3] or 0) > 59:
         return None
-    return (int(found[1]), int(found[2]), int(found[3] or 0))
+    hours = int(found[1])
+    if found[4]:
+        if not 1 <= hours <= 12:
+            return None
+        hours = hours % 12 + (12 if found[4] in "Pp" else 0)
+    return (hours, int(found[2]), int(found[3] or 0))
 
 
 def holds(profile, test, field):
@@ -552,14 +573,15 @@ def is_header(profile, table, number, fields):
 def names_of(profile, table, fields, number):
     """Where the named columns of a table stand, by its header."""
     places = {}
-    for name in named_columns(table):
-        count = fields.count(name)
+    for column in used_columns(table):
+        numbered = isinstance(column, int)
+        count = int(column <= len(fields)) if numbered else fields.count(column)
         if count > 1:
-            raise Fault(number, f"column {name!r} stands twice in the header")
-        if not count and name not in profile.optional:
-            raise Fault(number, f"column {name!r} is not in the header")
-        if count:
-            places[name] = fields.index(name)
+            raise Fault(number, f"column {column!r} stands twice in the header")
+        if not count and str(column) not in profile.optional:
+            raise Fault(number, f"column {column!r} is not in the header")
+        if count and not numbered:
+            places[column] = fields.index(column)
     # The key leaves optional columns out, named by a rule or not.
     places.update({name: fields.index(name) for name in profile.optional if name in fields})
     return places
@@ -995,7 +1017,8 @@ class Deal:
         if text is not None:
             return text
         left_out = {self.row.names[name] for name in self.profile.optional if name in self.row.names}
-        fields = [field for place, field in enumerate(self.row.fields) if place not in left_out]
+        optional = self.profile.optional
+        fields = [field for place, field in enumerate(self.row.fields) if place not in left_out and str(place + 1) not in optional]
         return " ".join(field for field in fields if field and field not in self.profile.nothing)
 
     def narration(self):
@@ -1066,17 +1089,17 @@ def key_of(deal, occurrences):
 
 
 def pair(ordered, left_out):
-    """Gives each cancelled purchase its own."""
+    """Gives each cancelled purchase its own, also where one of the two is left out."""
     for place, deal in enumerate(ordered):
         if deal.kind == "cancel-sell" and deal.key not in left_out:
             raise deal.fault("is a cancelled sale: leave out it and its sale")
-        if deal.kind != "cancel-buy" or deal.key in left_out:
+        if deal.kind != "cancel-buy":
             continue
         for earlier in reversed(ordered[:place]):
-            if earlier.kind == "buy" and not earlier.buy and earlier.key not in left_out and same_deal(earlier, deal):
+            if earlier.kind == "buy" and not earlier.buy and same_deal(earlier, deal):
                 earlier.buy, deal.buy = deal, earlier
                 break
-        else:
+        if deal.key not in left_out and (not deal.buy or deal.buy.key in left_out):
             raise deal.fault("its purchase is not in the file: export from an earlier day")
 
 

@@ -109,7 +109,7 @@ const WORDS: [Word; 11] = [
             WordOption {
                 form: Form::Optional("REF"),
                 name: "ref",
-                help: "The ref of the row, as it stands in the file. It goes with --row-of",
+                help: "The ref of the row, as it stands in the file, by a profile the name of its key. It goes with --row-of",
             },
             WordOption {
                 form: Form::Start,
@@ -308,7 +308,7 @@ pub(crate) const IMPORT_OPTIONS: &[WordOption] = &[
     WordOption {
         form: Form::Repeated("REF"),
         name: "except",
-        help: "Leaves out the row with that ref, as in --except A17. It may be given several times. The rows that are left keep their numbers",
+        help: "Leaves out the row with that ref, as in --except A17; with --profile the row whose key has that name, as in --except '2024-06-28 1 1009'. It may be given several times. The rows that are left keep their numbers",
     },
     ROUNDING,
     WITHIN,

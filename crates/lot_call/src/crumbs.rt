@@ -82,6 +82,7 @@ impl Watch for Crumbs {
             Note::Refused(refusal) => {
                 self.find(number, reply_of(alloc, number, &Verdict::Refused(refusal)));
             }
+            Note::Unsplit(fault) => self.find(number, Ok(Finding::Unsplit(fault))),
             Note::Untaken(completion) => self.find(number, balancing(alloc, completion)),
         }
     }

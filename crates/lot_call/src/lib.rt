@@ -9,19 +9,25 @@
 //!   output can't be written; `standing`: what stands in the place of its book.
 //! - `crumbs`: what became of the crumbs of commands; `taken`: what an account took of them, with the
 //!   `sums`. `watched`: all that is watched of commands.
-//! - `profile`: the profile of an import, as it is read from its file. `export`: what is said of a broker's export.
+//! - `profile`: the profile of an import, as it is read from its file. `export`: what is said of a broker's export; `exported`: its
+//!   rows, for what is said of those that are refused or left out. `row_fault`: why a row says nothing that can be posted, with its
+//!   `figures` and `signs`.
 #![tactic(auto)]
 
 mod arguments;
 mod call;
 mod crumbs;
 mod export;
+mod exported;
 mod facts;
 mod fate;
+mod figures;
 mod notes;
 mod profile;
 mod remains;
 mod remembered;
+mod row_fault;
+mod signs;
 mod standing;
 mod status;
 mod sums;
@@ -35,7 +41,7 @@ pub use crumbs::Crumbs;
 pub use export::{say_aside, say_export_fault};
 pub use fate::Fate;
 pub use notes::{say_fate, say_why, sum_up};
-pub use profile::{Loaded, load};
+pub use profile::{LoadFault, Loaded, load, loaded_from};
 pub use remains::{say_cut_short, say_unwritten};
 pub use remembered::Remembered;
 pub use standing::Standing;

@@ -1,11 +1,15 @@
 //! The profile of an import, as the program reads it.
 
+ghost use Rattle.std.specs.Prelude.{IfErr, IfOk};
+ghost use Rattle.lot_call.specs.Loaded.{IsLoadFault, IsLoaded};
+
 use crate::status::{UNUSABLE, out_of_memory};
 use lot_base::NameFault;
 use lot_export::rounding_of;
 use lot_profile::Profile;
 use lot_profile_text::{ProfileFault, fault_text, read_profile};
 use lot_rounding::Rounding;
+use std::alloc::Global;
 use std::io::ErrorKind;
 use std::{fmt, fs};
 
@@ -16,6 +20,15 @@ pub struct Loaded {
     pub rounding: Option<Rounding>,
 }
 
+/// Why a text gives no profile to import by.
+#[derive(Drop)]
+pub enum LoadFault {
+    /// It says no profile.
+    Text(ProfileFault),
+    /// Its profile names no account for crumbs where it names something.
+    Rounding(NameFault),
+}
+
 /// Reads the profile in the file of that path. Where that has none, standard error says why, and it returns the status of the
 /// program.
 pub fn load(rt: &HostRuntime, path: &str) -> Result<Loaded, u8> {
@@ -24,19 +37,43 @@ pub fn load(rt: &HostRuntime, path: &str) -> Result<Loaded, u8> {
         Err(error) if error.kind() == ErrorKind::OutOfMemory => return Err(out_of_memory(rt)),
         Err(error) => return Err(refuse(rt, path, &error)),
     };
-    let profile = match read_profile(rt.alloc(), text.as_str()) {
+    match loaded_from(rt.alloc(), text.as_str()) {
+        Ok(loaded) => Ok(loaded),
+        Err(LoadFault::Text(fault)) => Err(refuse_text(rt, path, &fault)),
+        Err(LoadFault::Rounding(NameFault::Memory)) => Err(out_of_memory(rt)),
+        Err(LoadFault::Rounding(_)) => {
+            Err(refuse(rt, path, &"accounts, rounding: has to be an account"))
+        }
+    }
+}
+
+/// Returns the profile that a text says, with where its crumbs go (docs/FORMATS.md, Profiles).
+///
+/// The error is `Text` where the text says no profile, for the reason that `read_profile` gives; else `Rounding` where what the
+/// profile names for crumbs is no account. Out of memory is `Memory` of either.
+pub fn loaded_from(alloc: Global, text: &str) -> Result<Loaded, LoadFault>
+    ensures ok { IfOk result (IsLoaded text.now) }
+    ensures fault { IfErr result (IsLoadFault text.now) }
+{
+    let profile = match read_profile(alloc, text) {
         Ok(profile) => profile,
-        Err(fault) => return Err(refuse_text(rt, path, &fault)),
+        Err(fault) => return Err(LoadFault::Text(fault)),
     };
-    match rounding_of(rt.alloc(), &profile) {
+    match rounding_of(alloc, &profile) {
         Ok(rounding) => Ok(Loaded { profile, rounding }),
-        Err(NameFault::Memory) => Err(out_of_memory(rt)),
-        Err(_) => Err(refuse(rt, path, &"accounts, rounding: has to be an account")),
+        Err(fault) => Err(LoadFault::Rounding(fault)),
     }
 }
 
 /// Says why a text is no profile, and returns the status of the program.
 fn refuse_text(rt: &HostRuntime, path: &str, fault: &ProfileFault) -> u8 {
+    if let ProfileFault::NoToml(line) = fault {
+        return refuse(
+            rt,
+            path,
+            &format_args!("line {line} is no TOML, or has a key that stands above already"),
+        );
+    }
     if matches!(fault, ProfileFault::Memory) {
         return out_of_memory(rt);
     }

@@ -5,16 +5,21 @@ ghost use Rattle.lot_call.specs.Except.{except_of};
 
 use crate::call::{Call, rounding_of};
 use crate::crumbs::Crumbs;
+use crate::exported::Exported;
 use crate::facts::Facts;
 use crate::remains::say_cut_short;
 use crate::remembered::Remembered;
 use crate::status::{DONE, STOPPED, UNUSABLE};
 use lot_args::Action;
 use lot_base::Label;
-use lot_explain::{Source, list, nearest_code, notes};
+use lot_command::Key;
+use lot_explain::{ExportRows, Source, list, nearest_code, notes};
 use lot_output::{Heard, Kept, Output};
 use lot_profile_text::{NOTES, SECTIONS, explain_profile};
+use lot_rounding::Asked;
 use sqlite::{Alter, Connection};
+use std::alloc::{AllocError, Global};
+use std::collections::BTreeMap;
 use std::io::{self, Write};
 
 /// Tells what a code means, or what all do, or what a profile may say, and returns the status.
@@ -74,7 +79,17 @@ pub fn explain<'a, S: Alter>(
         None => None,
     };
     let most = call.most();
-    let (source, from) = source_of(call.action);
+    let Ok(exported) = Exported::of(alloc, call.action, input.as_slice(), lines.as_slice()) else {
+        return;
+    };
+    let Ok(rows) = rows_of(alloc, &exported) else {
+        return;
+    };
+    let commands = match &exported {
+        Some(exported) => exported.commands(),
+        None => &[],
+    };
+    let (source, from) = source_of(call.action, &rows, commands);
     let asked = lot_explain::Call {
         source,
         input: input.as_slice(),
@@ -95,8 +110,20 @@ pub fn explain<'a, S: Alter>(
     };
 }
 
-/// Returns what an action is given, and the number of the first command or row that it runs.
-fn source_of(action: &Action) -> (Source<'_>, u32) {
+/// Returns the rows of an export, none where there is none. The only error is out of memory.
+fn rows_of(alloc: Global, exported: &Option<Exported>) -> Result<ExportRows, AllocError> {
+    match exported {
+        Some(exported) => exported.rows(alloc),
+        None => Ok(BTreeMap::new(alloc)),
+    }
+}
+
+/// Returns what an action is given, of an export these rows and commands, and the number of the first command or row that it runs.
+fn source_of<'a>(
+    action: &'a Action,
+    rows: &'a ExportRows,
+    commands: &'a [(Key, Asked)],
+) -> (Source<'a>, u32) {
     match action {
         Action::Import(import) => {
             let (batch, accounts) = (import.batch.as_str(), &import.accounts);
@@ -104,7 +131,14 @@ fn source_of(action: &Action) -> (Source<'_>, u32) {
         }
         Action::ImportBy(import) => {
             let batch = import.batch.as_str();
-            (Source::Export { batch }, 1)
+            (
+                Source::Export {
+                    batch,
+                    rows,
+                    commands,
+                },
+                1,
+            )
         }
         Action::Post(post) => {
             let batch = post.batch.as_str();
@@ -123,7 +157,7 @@ fn source_of(action: &Action) -> (Source<'_>, u32) {
     }
 }
 
-/// Returns the `ref` of each row that an action leaves out.
+/// Returns the `ref` of each row that an action leaves out, of an export the name of its key.
 fn except_of(action: &Action) -> &[Label]
     ensures { result.now ≡ except_of action.now }
 {

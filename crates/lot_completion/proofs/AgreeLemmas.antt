@@ -26,10 +26,12 @@ use Rattle.lot_laws.proofs.StepAgree.{Alike, AlikeIn, TiesAlike, alike_all, same
 use Rattle.lot_laws.proofs.StepLooks.{same_decision_under}
 use Rattle.lot_completion.specs.Completion.{IsCompletion}
 use Rattle.lot_completion.specs.Rates.{Rates, RatesAll, RatesAmount, postings_of}
-use Rattle.lot_completion.specs.Turn.{Proposes, ProposesFor}
+use Rattle.lot_completion.specs.Turn.{Proposes, ProposesFor, ProposesSplit, SplitsFor, Tries, TriesBy}
 use Rattle.lot_completion.specs.declared.rates.RatedPosting.{RatedPosting}
 use Rattle.lot_rounding.specs.declared.asked.Asked.{Asked}
+use Rattle.lot_rounding.specs.declared.ratio.Change.{Change}
 use Rattle.lot_rounding.specs.declared.rounding.Rounding.{Rounding}
+use Rattle.lot_split.proofs.AgreeLemmas.{split_on_book, split_on_known}
 
 -- ---- postings with rates look at the same
 
@@ -165,14 +167,68 @@ module _ (known : FactsWithOpenings) (book : List Entry) (key : Key) (rounding :
   known_ties = agreed_ties Second known book key (pairs_in asked.command) agrees.facts.held agrees.opening
 
   -- what is tried on facts that agree with a book's is what is tried on the book
-  pub proposed_on_book : Proposes (ties_on known) known.facts rounding asked other
+  proposed_on_book : Proposes (ties_on known) known.facts rounding asked other
       → Proposes (ties_in Second book) (facts_of book key) rounding asked other
   proposed_on_book proposes =
       proposes_alike (ties_on known) (ties_in Second book) known.facts (facts_of book key) rounding asked other agrees.facts known_ties proposes
 
-  pub proposed_on_known : Proposes (ties_in Second book) (facts_of book key) rounding asked other
+  proposed_on_known : Proposes (ties_in Second book) (facts_of book key) rounding asked other
       → Proposes (ties_on known) known.facts rounding asked other
   proposed_on_known proposes =
       proposes_alike (ties_in Second book) (ties_on known) (facts_of book key) known.facts rounding asked other
       (agrees_turned known.facts (facts_of book key) asked.command agrees.facts)
       (ties_turned (ties_on known) (ties_in Second book) known.facts (facts_of book key) (pairs_in asked.command) agrees.facts.held known_ties) proposes
+
+  -- so is a split
+  split_tried_on_book : (change : Change) → ProposesSplit (ties_on known) known.facts rounding change asked.command other
+      → ProposesSplit (ties_in Second book) (facts_of book key) rounding change asked.command other
+  split_tried_on_book change proposes = record {
+    split = proposes.split;
+    asks = proposes.asks;
+    made = proposes.made;
+    splits = by proposes.splits;
+    other_is = proposes.other_is;
+  }
+    where
+      by : SplitsFor (ties_on known) known.facts proposes.split proposes.made
+          → SplitsFor (ties_in Second book) (facts_of book key) proposes.split proposes.made
+      by (inl (new, is)) = inl (
+        sym agrees.facts.text ∙ new,
+        split_on_book known book key asked.command rounding.account change proposes.split proposes.made agrees proposes.asks is,
+      )
+      by (inr stands) = inr (record { says = sym agrees.facts.text ∙ stands.says; sayable = stands.sayable; form = stands.form })
+
+  split_tried_on_known : (change : Change) → ProposesSplit (ties_in Second book) (facts_of book key) rounding change asked.command other
+      → ProposesSplit (ties_on known) known.facts rounding change asked.command other
+  split_tried_on_known change proposes = record {
+    split = proposes.split;
+    asks = proposes.asks;
+    made = proposes.made;
+    splits = by proposes.splits;
+    other_is = proposes.other_is;
+  }
+    where
+      by : SplitsFor (ties_in Second book) (facts_of book key) proposes.split proposes.made
+          → SplitsFor (ties_on known) known.facts proposes.split proposes.made
+      by (inl (new, is)) = inl (
+        agrees.facts.text ∙ new,
+        split_on_known known book key asked.command rounding.account change proposes.split proposes.made agrees proposes.asks is,
+      )
+      by (inr stands) = inr (record { says = agrees.facts.text ∙ stands.says; sayable = stands.sayable; form = stands.form })
+
+  -- what is tried on facts that agree with a book's, a split or a completion, is what is tried on the book
+  pub tried_on_book : Tries (ties_on known) known.facts rounding asked other → Tries (ties_in Second book) (facts_of book key) rounding asked other
+  tried_on_book = by asked.split
+    where
+      by : (split : Option Change) → TriesBy split (ties_on known) known.facts rounding asked other
+          → TriesBy split (ties_in Second book) (facts_of book key) rounding asked other
+      by None proposes = proposed_on_book proposes
+      by (Some change) proposes = split_tried_on_book change proposes
+
+  pub tried_on_known : Tries (ties_in Second book) (facts_of book key) rounding asked other → Tries (ties_on known) known.facts rounding asked other
+  tried_on_known = by asked.split
+    where
+      by : (split : Option Change) → TriesBy split (ties_in Second book) (facts_of book key) rounding asked other
+          → TriesBy split (ties_on known) known.facts rounding asked other
+      by None proposes = proposed_on_known proposes
+      by (Some change) proposes = split_tried_on_known change proposes

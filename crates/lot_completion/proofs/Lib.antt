@@ -11,6 +11,7 @@ mod ReadLemmas
 mod FormLemmas
 mod ByFormLemmas
 mod OwnLemmas
+mod SplitLemmas
 mod TurnLemmas
 mod RepeatLemmas
 mod BalancingLemmas

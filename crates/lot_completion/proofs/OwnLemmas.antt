@@ -32,7 +32,7 @@ use Rattle.lot_laws.proofs.StepLemmas.{books_one}
 use Rattle.lot_completion.specs.Completion.{IsCompletion, IsCrumbOf, fill_decimals, has_products_in, is_cost_in, product_residuals, stated, weighs_at_price, zeros_of}
 use Rattle.lot_completion.specs.Crumbs.{IsCrumb, crumb_postings, part_posting, posting_in, price_in, rest_of, speck_of, weight_at, weights_at, whole_of}
 use Rattle.lot_completion.specs.Rates.{Rates, RatesAll, RatesAmount, RatesCost, RatesTotal, left_of, postings_of}
-use Rattle.lot_completion.specs.Turn.{IsTurnWith, Proposes, ProposesFor}
+use Rattle.lot_completion.specs.Turn.{IsTurnWith, Proposes, ProposesFor, TriesBy}
 use Rattle.lot_completion.specs.declared.rates.RatedCost.{RatedCost}
 use Rattle.lot_completion.specs.declared.rates.RatedPosting.{RatedPosting}
 use Rattle.lot_completion.proofs.BalanceLemmas.{IsPlain, Splits, adds_crumbs, crumbs_plain, plain_weights, split_books}
@@ -45,6 +45,7 @@ use Rattle.lot_completion.proofs.TakenUpLemmas.{apart_crumbs, apart_residuals, o
 use Rattle.lot_rounding.proofs.NearestLemmas.{step_positive}
 use Rattle.lot_rounding.specs.Nearest.{IsRounded, step}
 use Rattle.lot_rounding.specs.declared.asked.Asked.{Asked}
+use Rattle.lot_rounding.specs.declared.ratio.Change.{Change}
 use Rattle.lot_rounding.specs.declared.rounding.Rounding.{Rounding}
 
 -- ---- rates stay
@@ -459,7 +460,7 @@ module _ (ties : TieRule) (facts : Facts) (account : List ℕ) (decimals : ℕ) 
 -- so what is handed in as a completion is judged as it is
 module _ (ties : TieRule) (facts : Facts) (account : List ℕ) (rounding : Rounding) (asked : Asked) (t : TransactionOf) (crumbs : List (List ℕ × ℤ))
     (completed : TransactionOf) (is : IsCompletion ties facts account rounding.decimals t crumbs completed) (command : asked.command ≡ Transaction completed)
-    (new : facts.text ≡ None) where
+    (plain : asked.split ≡ None) (new : facts.text ≡ None) where
   proposes_own : (other : Command) → Proposes ties facts rounding asked other → other ≡ Transaction completed
   proposes_own other proposes =
       let both : Transaction proposes.t ≡ Transaction completed = sym proposes.is ∙ command in
@@ -473,5 +474,6 @@ module _ (ties : TieRule) (facts : Facts) (account : List ℕ) (rounding : Round
       by (inr stands) = let none = sym new ∙ stands.says in absurd cc
 
   pub own_turn : (turned : Command) → IsTurnWith ties facts rounding asked turned → turned ≡ Transaction completed
-  own_turn turned (inl (proposes, passes)) = proposes_own turned proposes
+  own_turn turned (inl (tries, passes)) =
+      proposes_own turned (subst (λ (split : Option Change). TriesBy split ties facts rounding asked turned) plain tries)
   own_turn turned (inr (same, none)) = same ∙ command

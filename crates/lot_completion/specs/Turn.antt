@@ -1,4 +1,4 @@
--- Turns: which command is judged in the place of one that was handed in, where an account takes the crumbs.
+-- Turns: which command is judged in the place of one that was handed in, where an account takes the crumbs, or lots are split.
 use Rattle.std.specs.Prelude.{◌≡◌, ◌⊎◌, ℕ, Bool, true, false, List, Option, None, Some, ℤ}
 use Rattle.std.specs.List.{AllByRecursion}
 use Rattle.lot_command.specs.Canonical.{canonical}
@@ -18,7 +18,11 @@ use Rattle.lot_completion.specs.Form.{IsByForm}
 use Rattle.lot_rounding.specs.Rounding.{IsWithin}
 use Rattle.lot_rounding.specs.declared.asked.Asked.{Asked}
 use Rattle.lot_rounding.specs.declared.asked.RowCash.{RowCash}
+use Rattle.lot_rounding.specs.declared.ratio.Change.{Change}
 use Rattle.lot_rounding.specs.declared.rounding.Rounding.{Rounding}
+use Rattle.lot_split.specs.Form.{IsSplitByForm}
+use Rattle.lot_split.specs.Held.{IsSplitOn, split_of}
+use Rattle.lot_split.specs.declared.transaction.Split.{Split}
 
 -- ---- Which commands may have a completion.
 
@@ -69,7 +73,35 @@ pub record Proposes (ties : TieRule) (facts : Facts) (rounding : Rounding) (aske
   pub proposes : ProposesFor ties facts rounding asked.cash t completed
   pub other_is : other ≡ Transaction completed
 
+-- ---- Splits.
+
+-- the split by form that stands under its key
+pub record StandsAsSplit (text : Option (List ℕ)) (split : Split) (stands : TransactionOf) : Type 0 where
+  pub says : text ≡ Some (canonical (Transaction stands))
+  pub sayable : IsSayable (Transaction stands)
+  pub form : IsSplitByForm split stands
+
+-- the split of the lots that are held, where the key is new, or the one that stands
+abbrev pub SplitsFor : TieRule → Facts → Split → TransactionOf → Type 0
+SplitsFor ties facts split other = ((facts.text ≡ None) × IsSplitOn ties facts split other) ⊎ StandsAsSplit facts.text split other
+
+-- a transaction that is tried in the place of a command that asks for a split
+pub record ProposesSplit (ties : TieRule) (facts : Facts) (rounding : Rounding) (change : Change) (command other : Command) : Type 0 where
+  pub split : Split
+  pub asks : split_of rounding.account change command ≡ Some split
+  pub made : TransactionOf
+  pub splits : SplitsFor ties facts split made
+  pub other_is : other ≡ Transaction made
+
 -- ---- Turns.
+
+-- a transaction that is tried in the place of what was handed in: a split, where that asks for one, else its completion
+abbrev pub TriesBy : Option Change → TieRule → Facts → Rounding → Asked → Command → Type 0
+TriesBy None ties facts rounding asked other = Proposes ties facts rounding asked other
+TriesBy (Some change) ties facts rounding asked other = ProposesSplit ties facts rounding change asked.command other
+
+abbrev pub Tries : TieRule → Facts → Rounding → Asked → Command → Type 0
+Tries ties facts rounding asked other = TriesBy asked.split ties facts rounding asked other
 
 -- a command is accepted, or stands already
 abbrev pub passes : Outcome → Bool
@@ -84,9 +116,9 @@ Passes ties facts command = (outcome : Outcome) × DecidesUnder ties facts comma
 -- passes, else what was handed in.
 abbrev pub IsTurnWith : TieRule → Facts → Rounding → Asked → Command → Type 0
 IsTurnWith ties facts rounding asked turned =
-    (Proposes ties facts rounding asked turned × Passes ties facts turned)
+    (Tries ties facts rounding asked turned × Passes ties facts turned)
     ⊎ ((turned ≡ asked.command)
-    × ((other : Command) → Proposes ties facts rounding asked other → Passes ties facts other → ⊥))
+    × ((other : Command) → Tries ties facts rounding asked other → Passes ties facts other → ⊥))
 
 -- without an account for crumbs it is always what was handed in
 abbrev pub IsTurn : TieRule → Facts → Option Rounding → Asked → Command → Type 0

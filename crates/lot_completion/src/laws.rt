@@ -14,13 +14,16 @@ ghost use Rattle.lot_command.specs.declared.transaction.Transaction.{Transaction
 ghost use Rattle.lot_completion.specs.Completion.{IsCompletion, fill_decimals, gets, zeros_of};
 ghost use Rattle.lot_completion.specs.Crumbs.{IsCrumb, IsTakenUp, MakeUp, crumb_postings, rest_of, speck_of};
 ghost use Rattle.lot_completion.specs.Form.{IsByForm};
-ghost use Rattle.lot_completion.specs.Turn.{AreWithinBound, IsTurnWith, StandsByForm};
+ghost use Rattle.lot_completion.specs.Turn.{AreWithinBound, IsTurnWith, StandsAsSplit, StandsByForm};
 ghost use Rattle.lot_rounding.specs.Asked.{IsAtSomeDecimals};
 ghost use Rattle.lot_rounding.specs.Nearest.{IsRounded};
 ghost use Rattle.lot_rounding.specs.Rounding.{IsBound};
 ghost use Rattle.lot_rounding.specs.declared.asked.Asked.{Asked};
 ghost use Rattle.lot_rounding.specs.declared.asked.RowCash.{RowCash};
+ghost use Rattle.lot_rounding.specs.declared.ratio.Change.{Change};
 ghost use Rattle.lot_rounding.specs.declared.rounding.Rounding.{Rounding};
+ghost use Rattle.lot_split.specs.Held.{split_of};
+ghost use Rattle.lot_split.specs.declared.transaction.Split.{Split};
 
 use lot_print::laws::canonical_texts_tell_commands_apart;
 
@@ -99,9 +102,22 @@ pub fn a_completion_is_one_by_form()
 pub fn what_was_completed_is_a_repeat()
     ensures { (ties : TieRule) (facts : Facts) (rounding : Rounding) (asked : Asked)
         (t completed : TransactionOf) (turned : Command)
-        → asked.command ≡ Transaction t → StandsByForm facts.text asked.cash t completed
+        → asked.command ≡ Transaction t → asked.split ≡ None
+        → StandsByForm facts.text asked.cash t completed
         → IsTurnWith ties facts rounding asked turned
         → (turned ≡ Transaction completed) × DecidesUnder ties facts turned Repeat }
+{
+    canonical_texts_tell_commands_apart();
+}
+
+/// Where a split by form stands under the key, it is judged in the place of the split that comes again,
+/// whatever the account holds by then, and that is a repeat.
+pub fn what_was_split_is_a_repeat()
+    ensures { (ties : TieRule) (facts : Facts) (rounding : Rounding) (asked : Asked)
+        (change : Change) (split : Split) (stands : TransactionOf) (turned : Command)
+        → asked.split ≡ Some change → split_of rounding.account change asked.command ≡ Some split
+        → StandsAsSplit facts.text split stands → IsTurnWith ties facts rounding asked turned
+        → (turned ≡ Transaction stands) × DecidesUnder ties facts turned Repeat }
 {
     canonical_texts_tell_commands_apart();
 }
@@ -126,6 +142,6 @@ pub fn a_completion_has_none_of_its_own()
         (asked : Asked) (t : TransactionOf) (crumbs : List (List ℕ × ℤ)) (completed : TransactionOf)
         (turned : Command)
         → IsCompletion ties facts account rounding.decimals t crumbs completed
-        → asked.command ≡ Transaction completed → facts.text ≡ None
+        → asked.command ≡ Transaction completed → asked.split ≡ None → facts.text ≡ None
         → IsTurnWith ties facts rounding asked turned → turned ≡ Transaction completed }
 {}

@@ -8,6 +8,7 @@
 //! - `behind`: crumbs, read back from the postings that make up for them.
 //! - `form`: whether a text is a completion of a transaction, as far as that can be seen.
 //! - `turn`: which command is tried in the place of one that was handed in.
+//! - `split`: which transaction is tried in the place of a command that asks for a split.
 //! - `watch`: who is told what becomes of crumbs.
 //! - `laws`: there is at most one completion of a transaction, and it balances.
 #![tactic(auto)]
@@ -19,10 +20,12 @@ mod crumbs;
 mod form;
 pub mod laws;
 mod rates;
+mod split;
 mod turn;
 mod watch;
 
 pub use balancing::untaken;
 pub use completion::{Completion, complete};
+pub use split::{SplitProposal, propose_split};
 pub use turn::{Proposal, propose};
 pub use watch::{Note, Watch};

@@ -12,8 +12,8 @@ use Rattle.std.specs.Option.{is_some}
 use Rattle.std.specs.Prelude.{◌==◌, ◌&&◌, ◌||◌, IfSome, nat_lt}
 use Rattle.std.specs.Str.Parse.{ParsesUnsigned, digits_value}
 use Rattle.lot_field.specs.Field.{cut}
-use Rattle.lot_split.specs.Ratio.{AreInRatio, IsLowest, most_in_ratio}
-use Rattle.lot_split.specs.declared.ratio.Ratio.{Ratio}
+use Rattle.lot_rounding.specs.Ratio.{AreInRatio, IsLowest, most_in_ratio}
+use Rattle.lot_rounding.specs.declared.ratio.Ratio.{Ratio}
 use Rattle.lot_deal_read.specs.Ratio.{is_colon, is_small, ratio_in, up_to, whole, with_new}
 
 -- ---- Whole numbers.

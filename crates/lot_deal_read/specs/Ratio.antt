@@ -11,10 +11,10 @@ use Rattle.lot_roles.specs.Reading.{Read, ◌>>=◌, or_fault}
 use Rattle.lot_roles.specs.declared.fault.RowFault.TheVariants.{NothingAdded, NotRatio, RatioTooLarge}
 use Rattle.lot_roles.specs.declared.rules.Rules.{Rules}
 use Rattle.lot_sheet.specs.Sheet.{SheetRow}
-use Rattle.lot_split.specs.Ratio.{most_in_ratio}
-use Rattle.lot_split.specs.declared.ratio.Change.{Change}
-use Rattle.lot_split.specs.declared.ratio.Change.TheVariants.{ByUnits, InRatio}
-use Rattle.lot_split.specs.declared.ratio.Ratio.{Ratio}
+use Rattle.lot_rounding.specs.Ratio.{most_in_ratio}
+use Rattle.lot_rounding.specs.declared.ratio.Change.{Change}
+use Rattle.lot_rounding.specs.declared.ratio.Change.TheVariants.{ByUnits, InRatio}
+use Rattle.lot_rounding.specs.declared.ratio.Ratio.{Ratio}
 use Rattle.lot_deal_read.specs.Needed.{must, units_in}
 
 -- ---- Ratios.

@@ -1,7 +1,9 @@
 //! What a row says by the rules of its table and its kind.
-ghost use Rattle.std.specs.Prelude.{◌≡◌, ◌≢◌, ◌⊎◌, IfOk, IfErr, IfSome, MatchOption, Ok};
+ghost use Rattle.std.specs.Prelude.{◌≡◌, ◌≢◌, ◌⊎◌, IfOk, IfErr, IfSome, MatchOption, Ok, Err};
 ghost use Rattle.lot_roles.specs.Reading.{Gives};
+ghost use Rattle.lot_roles.specs.declared.fault.RowFault.{RowFault};
 ghost use Rattle.lot_roles.specs.declared.fault.RowFault.TheVariants.{Memory};
+ghost use Rattle.lot_roles.specs.declared.rules.Rules.{Rules};
 ghost use Rattle.lot_profile.specs.declared.account.AccountRole.TheVariants as account;
 ghost use Rattle.std.specs.List.{slice_get};
 ghost use Rattle.lot_deal_read.specs.Cash.{movement_of};
@@ -33,13 +35,19 @@ use std::alloc::Global;
 /// The error is the first fault of the row: `NoKind` where it meets the conditions of no kind of its table, or is of no table;
 /// `TwoKinds` where it meets those of two. Else it is that of the first value that isn't as the kind needs it, in this order: the
 /// day and the time; the values; their signs; the comparison of units, price, fee and amount; the accounts. A cancelled sale
-/// is always `CancelledSale`, once its day was read. Else it is `Memory`.
+/// is always `CancelledSale`, once its day was read. Else it is `Memory`, but never in place of `NoKind` or `TwoKinds`, nor of a row
+/// that a rule passes over.
 pub fn read_row(alloc: Global, profile: &Profile, row: &Row) -> Result<RowSays, RowFault>
     ensures says { IfOk result (Says profile.now row.now) }
     ensures fault { IfErr result
         (λ fault. fault ≢ Memory → SaysNothing profile.now row.now fault) }
     ensures kind { IfOk result (IsOfKind profile.now row.now) }
     ensures signs { IfOk result SaysWithSigns }
+    ensures no_rules { (fault : RowFault)
+        → HasNoRules profile.now row.now fault (slice_get profile.now.tables row.now.table)
+        → result ≡ Err fault }
+    ensures skipped { (rules : Rules) → AreRules profile.now row.now rules
+        → rules.kind.now.kind ≡ Kind.Skip → result ≡ Ok RowSays.Skipped }
 {
     let rules = rules_of(profile, row)?;
     says(alloc, &rules, row)
@@ -78,6 +86,7 @@ fn says(alloc: Global, rules: &Rules, row: &Row) -> Result<RowSays, RowFault>
     ensures gives { Gives result (says_of rules.now row.now) }
     ensures kind { IfOk result (SaysByKind rules.now.kind.now.kind) }
     ensures signs { IfOk result SaysWithSigns }
+    ensures skipped { rules.now.kind.now.kind ≡ Kind.Skip → result ≡ Ok RowSays.Skipped }
 {
     match rules.kind.kind {
         Kind::Skip => Ok(RowSays::Skipped),

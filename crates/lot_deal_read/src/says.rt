@@ -4,7 +4,7 @@ use lot_base::{Account, Commodity, Day, Note};
 use lot_deal::{Deal, Trade};
 use lot_field::{Text, Time};
 use lot_num::{Rate, Units};
-use lot_split::Change;
+use lot_rounding::Change;
 
 /// What a row says.
 pub enum RowSays {

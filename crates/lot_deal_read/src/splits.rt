@@ -10,8 +10,8 @@ use lot_field::cut;
 use lot_num::Units;
 use lot_profile::Role;
 use lot_roles::{RowFault, Rules, text};
+use lot_rounding::{Change, Ratio, lowest_ratio};
 use lot_sheet::Row;
-use lot_split::{Change, Ratio, lowest_ratio};
 use std::alloc::Global;
 
 /// Returns how a row gives a split: by a ratio, where it has one, else by the units that were added.

@@ -1,5 +1,6 @@
 //! The facts of a refusal that its book has, as they stand behind the last command.
 
+use crate::call::Naming;
 use crate::fact::without_sign;
 use crate::form::is_by_form;
 use crate::nearest::nearest;
@@ -110,10 +111,10 @@ fn completing(
         return Ok("");
     }
     let completes = is_by_form(alloc, entry.body.as_str(), refused.cash, transaction)?;
-    Ok(if completes {
-        "; with --rounding ACCOUNT it is a repeat"
-    } else {
-        ""
+    Ok(match refused.naming {
+        _ if !completes => "",
+        Naming::Options => "; with --rounding ACCOUNT it is a repeat",
+        Naming::Profile => "; with rounding in [accounts] of the profile it is a repeat",
     })
 }
 

@@ -1,15 +1,17 @@
 //! What there is to say of the refusals and the faults of a call.
 
 use crate::book::Known;
+use crate::export::ExportRows;
 use crate::finding::Findings;
-use crate::left_out::note_left_out;
+use crate::left_out::{note_left_out, note_left_out_by_name};
 use crate::notebook::Notebook;
 use crate::reading::Reading;
 use crate::refused::note_lines;
 use crate::warning::{warn_of_rows, warn_of_text};
 use lot_base::Label;
+use lot_command::Key as CommandKey;
 use lot_import::{Accounts, Row};
-use lot_rounding::{Decimals, Rounding};
+use lot_rounding::{Asked, Decimals, Rounding};
 use std::alloc::Global;
 use std::io::{self, Write};
 
@@ -30,12 +32,23 @@ pub enum Source<'a> {
         batch: &'a str,
         accounts: &'a Accounts,
     },
-    /// A broker's export, whose rows are posted by a profile.
+    /// A broker's export, whose rows are posted by a profile: those that have a day, and what was run; none where it is faulty.
     Export {
         batch: &'a str,
+        rows: &'a ExportRows,
+        commands: &'a [(CommandKey, Asked)],
     },
     /// A dump, which isn't kept.
     Dump,
+}
+
+/// What names the account that takes crumbs.
+#[derive(Clone, Copy)]
+pub(crate) enum Naming {
+    /// Options of the call.
+    Options,
+    /// Its profile.
+    Profile,
 }
 
 /// The key of a command.
@@ -55,7 +68,7 @@ pub struct Call<'a> {
     pub input: &'a [u8],
     /// The number of the first command or row that was to run, from 1.
     pub from: u32,
-    /// The `ref` of each row that is left out.
+    /// The `ref` of each row that is left out, of an export the name of its key.
     pub except: &'a [Label],
     /// The lines that say that a command was refused or that there was a fault, as they were
     /// written.
@@ -77,10 +90,18 @@ impl<'a> Call<'a> {
         let (word, batch, name) = match self.source {
             Source::Text { batch } => ("post", batch, name),
             Source::Row { batch, reference } => ("import", batch, reference),
-            Source::Rows { batch, .. } | Source::Export { batch } => ("import", batch, name),
+            Source::Rows { batch, .. } | Source::Export { batch, .. } => ("import", batch, name),
             Source::Dump => ("", "", name),
         };
         Key { word, batch, name }
+    }
+
+    /// Returns what names the account that takes crumbs.
+    pub(crate) fn naming(&self) -> Naming {
+        match self.source {
+            Source::Export { .. } => Naming::Profile,
+            _ => Naming::Options,
+        }
     }
 
     /// Returns whether a row is left out.
@@ -101,7 +122,7 @@ impl<'a> Call<'a> {
 /// where it stands in the input, its code and rule, and what is known of it from the input and from
 /// the book.
 ///
-/// Then it writes as many lines of rows that are left out, and one for each `ref` to be left out that
+/// Then it writes as many lines of rows that are left out, and one for each `ref` or name to be left out that
 /// no row has; and as many warnings, each of a place that may have been meant otherwise. Where memory
 /// ends, nothing more is written.
 pub fn notes<W: Write, B: Known>(
@@ -115,14 +136,16 @@ pub fn notes<W: Write, B: Known>(
     let mut notes = Notebook::new(alloc, writer, most);
     note_lines(alloc, &mut notes, book, call, &mut reading)?;
     notes.end()?;
-    if let Reading::Rows { rows, .. } = &reading {
-        note_left_out(alloc, writer, call, rows, most)?;
+    match &reading {
+        Reading::Rows { rows, .. } => note_left_out(alloc, writer, call, rows, most)?,
+        Reading::Export { rows, .. } => note_left_out_by_name(alloc, writer, call, *rows, most)?,
+        Reading::Text { .. } | Reading::Dump => {}
     }
     let mut warnings = Notebook::new(alloc, writer, most);
     match &reading {
         Reading::Text { .. } => warn_of_text(alloc, &mut warnings, book, call)?,
         Reading::Rows { rows, .. } => warn_of_rows(alloc, &mut warnings, call, rows)?,
-        Reading::Export | Reading::Dump => {}
+        Reading::Export { .. } | Reading::Dump => {}
     }
     warnings.end()
 }

@@ -1,12 +1,38 @@
-//! Which columns of a broker file have numbers with a comma.
+//! Which numbers have a comma: those of a line of ledger text, and those of the columns of a broker file.
 
-ghost use Rattle.std.specs.Prelude.{◌≡◌};
+ghost use Rattle.std.specs.Prelude.{◌≡◌, option_map};
 ghost use Rattle.csv.specs.Records.{fields_of};
-ghost use Rattle.lot_explain.specs.Commas.{found_at, has_comma, with_field, with_record};
+ghost use Rattle.lot_token.specs.Cutting.{lexeme_of};
+ghost use Rattle.lot_explain.specs.Commas.{first_with_comma, found_at, has_comma, with_comma, with_field, with_record};
 
 use crate::records::{FEE, PRICE, UNITS};
 use csv::ByteRecord;
 use lot_import::field;
+use lot_token::{Token, Tokens};
+
+/// Returns the first number with a comma among the tokens of a line.
+pub(crate) fn first_with_comma<'a>(tokens: Tokens<'_, 'a>) -> Option<&'a str>
+    ensures { option_map (λ number. number.now) result ≡ first_with_comma tokens.entry }
+{
+    let mut rest = tokens;
+    while let Some((token, behind)) = rest.split_first() {
+        if let Some(number) = with_comma(token) {
+            return Some(number);
+        }
+        rest = behind;
+    }
+    None
+}
+
+/// Returns what a token says, if it is a number with a comma.
+fn with_comma(token: Token<'_>) -> Option<&str>
+    ensures { option_map (λ number. number.now) result ≡ with_comma (lexeme_of token.entry) }
+{
+    match token {
+        Token::Number(number) if has_comma(number.as_bytes()) => Some(number),
+        _ => None,
+    }
+}
 
 /// The rows with a comma in a column.
 #[derive(Clone, Copy)]

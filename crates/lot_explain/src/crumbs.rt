@@ -2,14 +2,16 @@
 //! completion isn't accepted.
 
 use crate::bound::{excess, least_bound};
+use crate::call::Naming;
 use crate::explained::find;
 use crate::fact::postings_of;
 use crate::finding::Finding;
 use crate::refused::{Refused, item};
 use crate::said::{Said, heard};
+use crate::split::why;
 use lot_base::{Account, Commodity};
-use lot_command::Command;
 use lot_command::canonical::body;
+use lot_command::{Command, Posting};
 use lot_num::Wide;
 use lot_rounding::{Bound, Rounding};
 use lot_token::Lines;
@@ -35,12 +37,16 @@ fn told(alloc: Global, refused: &Refused<'_>, finding: &Finding) -> Result<Strin
                 largest,
             },
             None,
-        ) => balancing(alloc, refused.command, completion.as_str(), *largest),
+        ) => balancing(alloc, refused, completion.as_str(), *largest),
         (Finding::Beyond { currency, crumb }, Some(rounding)) => {
-            beyond(alloc, currency, *crumb, rounding.within)
+            beyond(alloc, refused.naming, currency, *crumb, rounding.within)
         }
         (Finding::Refused { reply }, Some(rounding)) => {
             refusal(alloc, refused.command, reply, &rounding.account)
+        }
+        (Finding::Unsplit(fault), _) => {
+            let why = why(*fault);
+            format!(in alloc; "; there is no split: {why}")
         }
         _ => Ok(String::new(alloc)),
     }
@@ -50,11 +56,11 @@ fn told(alloc: Global, refused: &Refused<'_>, finding: &Finding) -> Result<Strin
 /// its own, and those behind; and the option that adds them, where there is one.
 fn balancing(
     alloc: Global,
-    command: &Command,
+    refused: &Refused<'_>,
     completion: &str,
     largest: Wide,
 ) -> Result<String, AllocError> {
-    let written = body(alloc, command)?;
+    let written = body(alloc, refused.command)?;
     let mut text = String::new(alloc);
     let mut others = written.as_str().lines();
     for line in completion.lines() {
@@ -71,7 +77,7 @@ fn balancing(
         text.push_str(posting.as_str())?;
     }
     if !text.is_empty() {
-        text.push_str(option(alloc, largest)?.as_str())?;
+        text.push_str(option(alloc, refused.naming, largest)?.as_str())?;
     }
     Ok(text)
 }
@@ -93,23 +99,30 @@ fn behind(alloc: Global, line: &str) -> Result<String, AllocError> {
 
 /// Names the option by which an account takes crumbs of which the largest is so large, or nothing
 /// where it takes none as large.
-fn option(alloc: Global, largest: Wide) -> Result<String, AllocError> {
-    match least_bound(largest) {
-        Some(_) if Bound::half_a_cent().allows(largest) => {
-            String::from_str(alloc, ": --rounding ACCOUNT adds that")
-        }
-        Some(bound) => {
-            let within = bound.units().text(alloc)?;
-            let within = within.as_str();
-            format!(in alloc; ": --rounding ACCOUNT --within {within} adds that")
-        }
-        None => Ok(String::new(alloc)),
+fn option(alloc: Global, naming: Naming, largest: Wide) -> Result<String, AllocError> {
+    let Some(bound) = least_bound(largest) else {
+        return Ok(String::new(alloc));
+    };
+    let (account, within) = match naming {
+        Naming::Options => ("--rounding ACCOUNT", " --within "),
+        Naming::Profile => ("rounding in [accounts] of the profile", " and within = "),
+    };
+    if Bound::half_a_cent().allows(largest) {
+        return format!(in alloc; ": {account} adds that");
     }
+    let bound = bound.units().text(alloc)?;
+    let bound = bound.as_str();
+    let quote = match naming {
+        Naming::Options => "",
+        Naming::Profile => "\"",
+    };
+    format!(in alloc; ": {account}{within}{quote}{bound}{quote} adds that")
 }
 
 /// Says how large a crumb is, and by how much that is too much.
 fn beyond(
     alloc: Global,
+    naming: Naming,
     currency: &Commodity,
     crumb: Wide,
     bound: Bound,
@@ -122,7 +135,11 @@ fn beyond(
         excess(bound, crumb).text_money(alloc)?,
     );
     let (amount, more, currency) = (amount.as_str(), more.as_str(), currency.as_str());
-    format!(in alloc; "; its crumb is {amount} {currency}, {more} more than --within allows")
+    let within = match naming {
+        Naming::Options => "--within",
+        Naming::Profile => "within of the profile",
+    };
+    format!(in alloc; "; its crumb is {amount} {currency}, {more} more than {within} allows")
 }
 
 /// Says why the completion of a command with an account for crumbs is refused, by the reply to it.
@@ -142,13 +159,30 @@ fn refusal(
     let Some(code) = find(said.code) else {
         return Ok(String::new(alloc));
     };
+    let what = as_what(command);
     match place_of(command, &said, account) {
         // What a completion leaves is in a currency that has no product.
         currency if said.code == "L14" => {
             format!(in alloc; "; {currency} has no cost or price here, so no crumb is taken in it")
         }
-        "" => format!(in alloc; "; with its crumbs it is refused: {code}"),
-        place => format!(in alloc; "; with its crumbs it is refused: {code} {place}"),
+        "" => format!(in alloc; "; {what} it is refused: {code}"),
+        place => format!(in alloc; "; {what} it is refused: {code} {place}"),
+    }
+}
+
+/// Returns as what a command is refused: as a split, for which a unit without cost stands alone, or with its crumbs.
+fn as_what(command: &Command) -> &'static str {
+    match postings_of(command) {
+        [posting] if is_plain(posting) => "as a split",
+        _ => "with its crumbs",
+    }
+}
+
+/// Returns whether a posting has units alone.
+fn is_plain(posting: &Posting) -> bool {
+    match &posting.amount {
+        Some(amount) => amount.cost.is_none() && amount.price.is_none(),
+        None => false,
     }
 }
 

@@ -2,20 +2,22 @@
 
 ghost use Rattle.std.specs.Prelude.{◌≡◌, IfOk, option_copied};
 ghost use Rattle.std.specs.List.{find, list_any};
-ghost use Rattle.lot_explain.specs.Codes.{is_named, some_named};
+ghost use Rattle.lot_explain.specs.Codes.{is_cause, is_named, some_named};
 
+use crate::causes::{CAUSES, Cause};
 use crate::codes::{Code, Examples, tables};
 use crate::nearest::nearest;
 use crate::shown::Wrapped;
 use std::alloc::{AllocError, Global};
 use std::io::{self, Write};
 
-/// Writes the explanation of each code that a word names, by its code or its name, in any letter
-/// case. Returns whether it names one. If it names none, nothing is written.
+/// Writes the explanation of each code that a word names, by its code or its name, and of each cause of a faulty row, by its name,
+/// in any letter case. Returns whether it names one. If it names none, nothing is written.
 pub fn explain<W: Write>(writer: &mut W, word: &str) -> io::Result<bool> {
-    let names_one = explain_among(writer, &tables(), word)?;
+    let names_code = explain_among(writer, &tables(), word)?;
+    let names_cause = explain_causes(writer, &CAUSES, word)?;
     writer.flush()?;
-    Ok(names_one)
+    Ok(names_code || names_cause)
 }
 
 /// Does the same with the codes of some tables.
@@ -40,6 +42,20 @@ fn explain_in<W: Write>(writer: &mut W, table: &[Code], word: &str) -> io::Resul
         if code.is_named(word) {
             names_one = true;
             write_code(writer, code)?;
+        }
+    }
+    Ok(names_one)
+}
+
+/// Does the same with some causes.
+fn explain_causes<W: Write>(writer: &mut W, causes: &[Cause], word: &str) -> io::Result<bool>
+    ensures { IfOk result (λ told. told ≡ list_any (is_cause word.now) causes.now) }
+{
+    let mut names_one = false;
+    for cause in causes {
+        if cause.is_named(word) {
+            names_one = true;
+            write_cause(writer, cause)?;
         }
     }
     Ok(names_one)
@@ -76,12 +92,20 @@ fn find_in<'a>(table: &'a [Code], word: &str) -> Option<&'a Code>
     None
 }
 
-/// Returns the code or name that is nearest to a word. The only error is out of memory.
+/// Returns the cause of a faulty row that a word names.
+pub fn cause_of(word: &str) -> Option<&'static Cause> {
+    CAUSES.iter().find(|cause| cause.is_named(word))
+}
+
+/// Returns the code, the name of one or that of a cause that is nearest to a word. The only error is out of memory.
 pub fn nearest_code(alloc: Global, word: &str) -> Result<&str, AllocError> {
     let mut names = Vec::new(alloc);
     for code in tables().into_iter().flatten() {
         names.push(code.code)?;
         names.push(code.name)?;
+    }
+    for cause in &CAUSES {
+        names.push(cause.name)?;
     }
     Ok(nearest(alloc, word, &names)?.unwrap_or(word))
 }
@@ -93,6 +117,24 @@ impl Code {
     {
         self.code.eq_ignore_ascii_case(word) || self.name.eq_ignore_ascii_case(word)
     }
+}
+
+impl Cause {
+    /// Returns whether a word is the name, in any letter case.
+    fn is_named(&self, word: &str) -> bool
+        ensures { result ≡ is_cause word.now self.now }
+    {
+        self.name.eq_ignore_ascii_case(word)
+    }
+}
+
+/// Writes what there is to say of a cause.
+fn write_cause<W: Write>(writer: &mut W, cause: &Cause) -> io::Result<()> {
+    let (brief, help) = (cause.brief, Wrapped(cause.help));
+    write!(
+        writer,
+        "{cause}: {brief}\n\nWhat helps:\n\n{help}\nRead on: docs/FORMATS.md, Faults\n\n"
+    )
 }
 
 /// Writes what there is to say of a code.

@@ -1,4 +1,4 @@
-//! What was found of the crumbs of refused commands as they were judged.
+//! What was found of the crumbs and the splits of refused commands as they were judged.
 
 ghost use Rattle.std.specs.Prelude.{◌≡◌, ◌≢◌, ℕ, None, OnOk, Some};
 ghost use Rattle.std.specs.BTreeMap.{btree_map_len};
@@ -7,10 +7,11 @@ ghost use Rattle.lot_explain.specs.Finding.{finding_of};
 
 use lot_base::Commodity;
 use lot_num::Wide;
+use lot_split::SplitFault;
 use std::alloc::{AllocError, Global};
 use std::collections::BTreeMap;
 
-/// What was found of the crumbs of a command as it was judged.
+/// What was found of the crumbs or the split of a command as it was judged.
 #[derive(Drop)]
 pub enum Finding {
     /// No account takes crumbs, and the transaction with this canonical text would balance it: its
@@ -18,8 +19,10 @@ pub enum Finding {
     Balances { completion: String, largest: Wide },
     /// A crumb of its completion is beyond the bound: that of this currency, at scale 16.
     Beyond { currency: Commodity, crumb: Wide },
-    /// Its completion is refused: the reply to that, with its line end.
+    /// Its completion, or its split, is refused: the reply to that, with its line end.
     Refused { reply: Vec<u8> },
+    /// It asks for a split, and the lots that are held can't be split, for this.
+    Unsplit(SplitFault),
 }
 
 /// What was found of commands, by their numbers.

@@ -27,6 +27,7 @@ pub(crate) fn is_by_form(
     let asked = Asked {
         command: Command::Transaction(transaction.copy(alloc)?),
         cash,
+        split: None,
     };
     let proposal = propose(alloc, &view, &rounding, &asked)?;
     Ok(is_standing(&proposal))

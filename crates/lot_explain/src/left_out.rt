@@ -1,8 +1,10 @@
-//! The rows of a broker file that a call leaves out, and those that it should leave out and that aren't there.
+//! The rows of a broker file or an export that a call leaves out, and those that it should leave out and that aren't there.
 
 use crate::call::Call;
+use crate::export::ExportRows;
 use crate::notebook::Notebook;
 use crate::place::Place;
+use crate::reading::place_in;
 use crate::records::Records;
 use crate::shown::Shown;
 use lot_base::Label;
@@ -35,6 +37,37 @@ pub(crate) fn note_left_out<W: Write>(
     notes.end()
 }
 
+/// Notes the same of the rows of an export, which are left out by the names of their keys.
+pub(crate) fn note_left_out_by_name<W: Write>(
+    alloc: Global,
+    writer: &mut W,
+    call: &Call<'_>,
+    rows: &ExportRows,
+    most: u64,
+) -> io::Result<()> {
+    if call.except.is_empty() || rows.is_empty() {
+        return Ok(());
+    }
+    let mut notes = Notebook::new(alloc, writer, most);
+    for (number, row) in rows {
+        if call.except.contains(&row.name) {
+            notes.note(place_in(rows, *number), "left out")?;
+        }
+    }
+    notes.end()?;
+    let mut notes = Notebook::new(alloc, writer, u64::MAX);
+    for name in call.except {
+        if !has_name(rows, name) {
+            let name = Shown(name.as_str().as_bytes());
+            notes.note(
+                Place::Whole,
+                format_args!("no row has a key with the name {name}"),
+            )?;
+        }
+    }
+    notes.end()
+}
+
 /// Notes each row that is left out.
 fn note_rows<W: Write>(
     alloc: Global,
@@ -55,6 +88,16 @@ fn note_rows<W: Write>(
 /// Returns whether some row has that `ref`.
 fn has_row(rows: &[Row], name: &Label) -> bool {
     rows.iter().any(|row| row.name == *name)
+}
+
+/// Returns whether the key of some row of an export has that name.
+fn has_name(rows: &ExportRows, name: &Label) -> bool {
+    for (_number, row) in rows {
+        if row.name == *name {
+            return true;
+        }
+    }
+    false
 }
 
 /// Returns whether one row alone has that `ref`.

@@ -1,7 +1,7 @@
 //! Why a command was refused, for people, on standard error: what each code means, and the place
 //! and the facts of each refusal and fault of a call.
 //!
-//! - `codes`: the codes, as data; `explained`: the text on one code (`explain`), or on all
+//! - `codes`: the codes, as data, and `causes`: those of faulty rows; `explained`: the text on one (`explain`), or on all codes
 //!   (`list`); `nearest`: which of some names is meant.
 //! - `call`: what there is to say of a call (`notes`), from what it read and said (`said`); a
 //!   `notebook` has as many lines as are wanted, each with its `place`.
@@ -14,7 +14,8 @@
 //! - `left_out`: rows that are left out. `warning`: what may have been meant otherwise. `commas`: which columns of a broker file have
 //!   numbers with a comma.
 //! - `reading`: the commands of an input. `site`: on which line a command stands; `records`: the
-//!   records of a broker file.
+//!   records of a broker file; `export`: the rows of a broker's export, and its lines.
+//! - `split`: why lots aren't split.
 //! - `shown`: how texts of the input are written on a line; `quoted`: how a text is written for a shell.
 //! - `laws`: what holds of the definitions that the contracts cite.
 #![tactic(auto)]
@@ -22,12 +23,14 @@
 mod book;
 mod bound;
 mod call;
+mod causes;
 mod codes;
 mod commas;
 mod commodity;
 mod crumbs;
 mod culprit;
 mod explained;
+mod export;
 mod fact;
 mod faulty;
 mod finding;
@@ -45,10 +48,14 @@ mod residual;
 mod said;
 mod shown;
 mod site;
+mod split;
 mod warning;
 
 pub use book::{Entry, Known, Latest, Lot};
 pub use call::{Call, Source, notes};
-pub use explained::{explain, list, nearest_code};
+pub use causes::Cause;
+pub use explained::{cause_of, explain, list, nearest_code};
+pub use export::{ExportRow, ExportRows, line_at};
 pub use finding::{Finding, Findings};
 pub use quoted::{LongOption, Quoted, is_shown};
+pub use shown::Shown;

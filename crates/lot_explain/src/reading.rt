@@ -1,12 +1,14 @@
 //! The commands of a ledger text, and those of a broker file, with their places.
 
 use crate::call::{Call, Source};
+use crate::export::{ExportRows, row_at};
 use crate::place::Place;
 use crate::records::Records;
 use crate::site::Sites;
-use lot_command::Command;
+use lot_command::{Command, Key};
 use lot_import::{Accounts, Row, RowsFault, read_rows};
 use lot_read::{TextFault, read};
+use lot_rounding::Asked;
 use std::alloc::{AllocError, Global};
 
 /// What an input says, none of it where it is faulty or wasn't read to its end; and how far it was
@@ -23,7 +25,10 @@ pub(crate) enum Reading<'a> {
         records: Records<'a>,
     },
     /// A broker's export, which is read by a profile.
-    Export,
+    Export {
+        rows: &'a ExportRows,
+        commands: &'a [(Key, Asked)],
+    },
     /// A dump, of which nothing is kept.
     Dump,
 }
@@ -45,7 +50,7 @@ impl<'a> Reading<'a> {
                 accounts,
                 records: Records::new(alloc, call.input)?,
             },
-            Source::Export { .. } => Reading::Export,
+            Source::Export { rows, commands, .. } => Reading::Export { rows, commands },
             Source::Dump => Reading::Dump,
         })
     }
@@ -53,7 +58,7 @@ impl<'a> Reading<'a> {
     /// Returns the first record of a broker file as it stands there, without blanks around it.
     pub(crate) fn header(&self) -> &[u8] {
         match self {
-            Reading::Text { .. } | Reading::Export | Reading::Dump => b"",
+            Reading::Text { .. } | Reading::Export { .. } | Reading::Dump => b"",
             Reading::Rows { records, .. } => records.header.trim_ascii(),
         }
     }
@@ -76,9 +81,21 @@ impl<'a> Reading<'a> {
                 None => Place::Number(number),
             }),
             Reading::Rows { records, .. } => records.go_to(number),
-            Reading::Export => Ok(Place::RowNumber(number)),
+            Reading::Export { rows, .. } => Ok(place_in(rows, number)),
             Reading::Dump => Ok(Place::Unkept(number)),
         }
+    }
+}
+
+/// Returns the place of the row of that number of an export.
+pub(crate) fn place_in(rows: &ExportRows, number: usize) -> Place<'_> {
+    match row_at(rows, number) {
+        Some(row) => Place::Row {
+            row: number,
+            name: row.name.as_str().as_bytes(),
+            line: row.fields.as_bytes(),
+        },
+        None => Place::RowNumber(number),
     }
 }
 

@@ -5,9 +5,10 @@ ghost use Rattle.std.specs.Prelude.{◌≡◌, option_map};
 ghost use Rattle.lot_explain.specs.Cause.{cause_behind, is_of_disk};
 
 use crate::book::Known;
-use crate::call::{Call, Key};
+use crate::call::{Call, Key, Naming};
 use crate::crumbs::crumbs;
 use crate::explained::find;
+use crate::export::{ExportRow, row_at};
 use crate::fact::{cash, fact, named, row_cash};
 use crate::faulty::{faulty_lines, faulty_rows};
 use crate::finding::Finding;
@@ -18,9 +19,9 @@ use crate::quoted::LongOption;
 use crate::reading::Reading;
 use crate::said::{Said, heard};
 use crate::shown::Shown;
-use lot_command::Command;
+use lot_command::{Command, Key as CommandKey};
 use lot_import::{CommandFault, Row, command};
-use lot_rounding::{Rounding, RowCash};
+use lot_rounding::{Asked, Rounding, RowCash};
 use lot_token::Lines;
 use std::alloc::{AllocError, Global};
 use std::io::{self, Write};
@@ -37,6 +38,8 @@ pub(crate) struct Refused<'a> {
     pub(crate) cash: Option<RowCash>,
     /// The account that takes crumbs, where one does.
     pub(crate) rounding: Option<&'a Rounding>,
+    /// What names that account.
+    pub(crate) naming: Naming,
     /// What was found of its crumbs.
     pub(crate) finding: Option<&'a Finding>,
 }
@@ -55,7 +58,8 @@ pub(crate) fn note_lines<W: Write, B: Known>(
                 faulty_lines(alloc, notes, call.input)?;
             }
             // What is wrong with an export is said by who knows its profile.
-            Some(said) if said.code.starts_with('C') && matches!(reading, Reading::Export) => {}
+            Some(said) if said.code.starts_with('C') && matches!(reading, Reading::Export { .. }) =>
+                {}
             Some(said) if said.code == "C2" => faulty_rows(alloc, notes, call.input)?,
             Some(said) => note_said(alloc, notes, book, call, reading, &said)?,
             None => {}
@@ -134,6 +138,7 @@ fn known<'a, B: Known>(
                     commands,
                     cash: None,
                     rounding: call.rounding,
+                    naming: call.naming(),
                     finding: call.findings.of(number),
                 };
                 let mut text = fact(alloc, book, &refused)?;
@@ -156,6 +161,7 @@ fn known<'a, B: Known>(
                             None => row_cash(row, &command),
                         },
                         rounding: call.rounding,
+                        naming: call.naming(),
                         finding: call.findings.of(number),
                     };
                     let mut text = named(alloc, &refused)?;
@@ -169,8 +175,52 @@ fn known<'a, B: Known>(
             },
             None => Ok(String::new(alloc)),
         },
-        Reading::Export | Reading::Dump => Ok(String::new(alloc)),
+        Reading::Export { rows, commands } => match row_at(rows, number) {
+            Some(row) => known_of_export(alloc, book, call, number, row, commands, said),
+            None => Ok(String::new(alloc)),
+        },
+        Reading::Dump => Ok(String::new(alloc)),
     }
+}
+
+/// Returns the same of the row of that number of an export.
+fn known_of_export<'a, B: Known>(
+    alloc: Global,
+    book: &mut B,
+    call: &'a Call<'a>,
+    number: usize,
+    row: &'a ExportRow,
+    commands: &'a [(CommandKey, Asked)],
+    said: &'a Said<'a>,
+) -> Result<String, AllocError> {
+    let Some((_, asked)) = command_of(row, commands) else {
+        return Ok(String::new(alloc));
+    };
+    let refused = Refused {
+        key: call.key(row.name.as_str()),
+        command: &asked.command,
+        said,
+        commands: &[],
+        cash: None,
+        rounding: call.rounding,
+        naming: call.naming(),
+        finding: call.findings.of(number),
+    };
+    let mut text = named(alloc, &refused)?;
+    text.push_str(fact(alloc, book, &refused)?.as_str())?;
+    if said.code == "L1" {
+        text.push_str(leaving_out(alloc, row.name.as_str())?.as_str())?;
+    }
+    text.push_str(crumbs(alloc, &refused)?.as_str())?;
+    Ok(text)
+}
+
+/// Returns what a row of an export was run as, where it was run.
+fn command_of<'a>(
+    row: &ExportRow,
+    commands: &'a [(CommandKey, Asked)],
+) -> Option<&'a (CommandKey, Asked)> {
+    commands.get(row.place?)
 }
 
 /// Names the option that leaves out a row under whose key another stands, where it leaves out no other row. The only error is
@@ -179,9 +229,14 @@ fn way_out(alloc: Global, said: &Said<'_>, row: &Row, rows: &[Row]) -> Result<St
     if said.code != "L1" || !is_only(rows, &row.name) {
         return Ok(String::new(alloc));
     }
+    leaving_out(alloc, row.name.as_str())
+}
+
+/// Names the option that leaves out the row of that `ref` or name. The only error is out of memory.
+fn leaving_out(alloc: Global, name: &str) -> Result<String, AllocError> {
     let except = LongOption {
         name: "except",
-        value: row.name.as_str(),
+        value: name,
     };
     format!(in alloc; "; {except} leaves it out")
 }

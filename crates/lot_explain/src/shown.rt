@@ -8,7 +8,7 @@ const MOST_COLUMNS: usize = 80;
 /// A text of the input on one line, cut at 80 columns. A character that would move the cursor or
 /// isn't UTF-8 is shown as a question mark.
 #[derive(Clone, Copy)]
-pub(crate) struct Shown<'a>(pub(crate) &'a [u8]);
+pub struct Shown<'a>(pub &'a [u8]);
 
 impl fmt::Display for Shown<'_> {
     fn fmt<W: fmt::Write>(&self, f: &mut fmt::Formatter<W>) -> fmt::Result {

@@ -2,7 +2,7 @@
 
 use crate::book::Known;
 use crate::call::Call;
-use crate::commas::Commas;
+use crate::commas::{Commas, first_with_comma};
 use crate::notebook::Notebook;
 use crate::place::Place;
 use crate::records::{FEE, PRICE, Records, UNITS};
@@ -13,7 +13,7 @@ use lot_cost::Method;
 use lot_import::Row;
 use lot_num::Units;
 use lot_read::{TextFault, read};
-use lot_token::{Lines, Token, Tokens};
+use lot_token::{Lines, Tokens};
 use memchr::memchr;
 use std::alloc::{AllocError, Global};
 use std::collections::BTreeMap;
@@ -35,7 +35,7 @@ pub(crate) fn warn_of_text<W: Write, B: Known>(
         if may_open_or_close(line) {
             warn_of_command(alloc, notes, book, place, line)?;
         }
-        if has_commas && let Some(number) = odd_number(line) {
+        if has_commas && let Some(number) = number_with_comma(line) {
             warn_of_number(alloc, notes, place, number)?;
         }
     }
@@ -110,46 +110,16 @@ fn warn_of_method<W: Write>(
     Ok(())
 }
 
-/// Returns the first number, of a line that isn't skipped, with a comma that doesn't group its
-/// digits.
-fn odd_number(line: &[u8]) -> Option<&str> {
+/// Returns the first number with a comma of a line that isn't skipped.
+fn number_with_comma(line: &[u8]) -> Option<&str> {
     memchr(b',', line)?;
     if matches!(kind_of(line), Kind::Other) {
         return None;
     }
-    let mut rest = Tokens::new(str::from_utf8(line).ok()?).ok()?;
-    for _token in 0..line.len() {
-        let (token, behind) = rest.split_first()?;
-        match token {
-            Token::Number(number) if is_odd(number) => return Some(number),
-            _ => rest = behind,
-        }
-    }
-    None
+    first_with_comma(Tokens::new(str::from_utf8(line).ok()?).ok()?)
 }
 
-/// Returns whether a comma of a number doesn't group its digits: it doesn't stand before a group of
-/// three digits, or it stands behind a lone zero.
-fn is_odd(number: &str) -> bool {
-    let whole = match number.split_once('.') {
-        Some((whole, _)) => whole,
-        None => number,
-    };
-    let Some((first, groups)) = whole.split_once(',') else {
-        return false;
-    };
-    if first.trim_start_matches(['-', '+']) == "0" {
-        return true;
-    }
-    for group in groups.split(',') {
-        if group.len() != 3 {
-            return true;
-        }
-    }
-    false
-}
-
-/// Warns of a number with a comma that doesn't group its digits.
+/// Warns of a number with a comma.
 fn warn_of_number<W: Write>(
     alloc: Global,
     notes: &mut Notebook<'_, W>,
@@ -163,7 +133,9 @@ fn warn_of_number<W: Write>(
     let value = value.as_str();
     notes.note(
         place,
-        format_args!("warning: {number} is read as {value}: decimals stand behind a point"),
+        format_args!(
+            "warning: {number} is read as {value}: commas are skipped, decimals stand behind a point"
+        ),
     )
 }
 
@@ -295,7 +267,7 @@ fn warn_of_column<W: Write>(
         return notes.note(
             records.place(),
             format_args!(
-                "warning: {name} {shown} is read as {value}: commas are skipped, decimals stand behind a point{others}"
+                "warning: {name} {shown} is read as {value}: commas are skipped, decimals stand behind a point{others}; try --all-or-none --dry-run first, or a profile that says what the comma is"
             ),
         );
     }

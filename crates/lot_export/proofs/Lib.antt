@@ -1,4 +1,5 @@
 pub mod ListLemmas
+pub mod DayLemmas
 pub mod EntryLemmas
 pub mod HandedInLemmas
 pub mod NamedLemmas

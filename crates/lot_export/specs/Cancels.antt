@@ -1,22 +1,23 @@
 -- Which purchase a row of an export takes back (docs/FORMATS.md, Profiles).
-use Rattle.std.specs.Prelude.{ℕ, ◌==◌, List, filter_map, position, Option, Some, None, ℤ}
+use Rattle.std.specs.Prelude.{◌≡◌, ℕ, if◌then◌else◌, List, [], length, map, Option, Some, None, ℤ, pos}
 use Rattle.std.specs.List.{slice_get}
 use Rattle.lot_deal_read.specs.declared.says.Compared.{Compared}
 use Rattle.lot_deal_read.specs.declared.says.Dated.{Dated}
 use Rattle.lot_deal_read.specs.declared.says.Saying.{Saying}
 use Rattle.lot_deal_read.specs.declared.says.Saying.TheVariants as saying
+use Rattle.lot_sequence.specs.Cancel.{IsMatching}
 use Rattle.lot_sequence.specs.declared.cancel.Side.{Side}
-use Rattle.lot_sequence.specs.declared.cancel.Side.TheVariants.{Buys, Cancels}
+use Rattle.lot_sequence.specs.declared.cancel.Side.TheVariants.{Buys, Cancels, Neither}
 use Rattle.lot_sequence.specs.declared.cancel.Trade.{Trade}
 use Rattle.lot_export.specs.Entries.{dated_at}
+use Rattle.lot_export.specs.Named.{is_left_out}
 use Rattle.lot_export.specs.declared.entry.Entry.{Entry}
 use Rattle.lot_export.specs.declared.named.Named.{Named}
 
 -- ---- Purchases, and what takes one back.
 
--- what is compared of the row of that number
+-- what is compared of a row
 pub record PlainTrade : Type 0 where
-  pub number : ℕ
   pub side : Side
   pub symbol : List ℕ
   pub units : ℤ
@@ -26,7 +27,6 @@ pub record PlainTrade : Type 0 where
 
 abbrev pub plain : Trade → PlainTrade
 plain t = record {
-  number = t.number;
   side = t.side;
   symbol = t.symbol.now;
   units = t.units;
@@ -35,9 +35,8 @@ plain t = record {
   currency = t.currency.now;
 }
 
-abbrev pub plain_trade : ℕ → Side → Compared → PlainTrade
-plain_trade number side c = record {
-  number = number;
+abbrev pub plain_trade : Side → Compared → PlainTrade
+plain_trade side c = record {
   side = side;
   symbol = c.symbol;
   units = c.units;
@@ -46,48 +45,45 @@ plain_trade number side c = record {
   currency = c.currency;
 }
 
-abbrev pub bought_by : ℕ → Option Compared → Option PlainTrade
-bought_by number None = None
-bought_by number (Some compared) = Some (plain_trade number Buys compared)
+-- nothing is compared of a row that does nothing with a purchase
+abbrev pub neither : PlainTrade
+neither = record { side = Neither; symbol = []; units = pos 0; price = None; amount = pos 0; currency = [] }
 
-abbrev pub trade_by : ℕ → Saying → Option PlainTrade
-trade_by number (saying.Deal deal bought) = bought_by number bought
-trade_by number (saying.CancelBuy note trade compared) = Some (plain_trade number Cancels compared)
-trade_by number _ = None
+abbrev pub bought_by : Option Compared → PlainTrade
+bought_by None = neither
+bought_by (Some compared) = plain_trade Buys compared
 
-abbrev pub trade_in : ℕ → Option Dated → Option PlainTrade
-trade_in number None = None
-trade_in number (Some dated) = trade_by number dated.saying
+abbrev pub trade_by : Saying → PlainTrade
+trade_by (saying.Deal deal bought) = bought_by bought
+trade_by (saying.CancelBuy note trade compared) = plain_trade Cancels compared
+trade_by _ = neither
 
--- the row of that number, if it is a purchase or takes one back
-abbrev pub trade_at : List Entry → ℕ → Option PlainTrade
-trade_at entries number = trade_in number (dated_at entries number)
+abbrev pub trade_in : Option Dated → PlainTrade
+trade_in None = neither
+trade_in (Some dated) = trade_by dated.saying
 
--- those of rows, in their order
+-- what a row does with a purchase
+abbrev pub trade_of : List Entry → Named → PlainTrade
+trade_of entries row = trade_in (dated_at entries row.number)
+
+-- that of each row, in their order
 abbrev pub trades_of : List Entry → List Named → List PlainTrade
-trades_of entries kept = filter_map (λ (row : Named). trade_at entries row.number) kept
+trades_of entries rows = map (trade_of entries) rows
+
+-- each row that takes a purchase back has its own, given by its place among these
+pub record ArePartners (entries : List Entry) (rows : List Named) (partners : List (Option ℕ)) : Type 0 where
+  pub trades : List Trade
+  pub are : map plain trades ≡ trades_of entries rows
+  pub matching : IsMatching trades (length trades) partners
 
 -- ---- The day of a purchase that is taken back.
 
-abbrev pub day_in : Option Dated → Option ℤ
-day_in None = None
-day_in (Some dated) = Some dated.day
+abbrev pub day_of : List (List ℕ) → Option Named → Option ℤ
+day_of except None = None
+day_of except (Some purchase) = if is_left_out except purchase then None else Some purchase.day
 
-abbrev pub day_of : List Entry → Option Trade → Option ℤ
-day_of entries None = None
-day_of entries (Some trade) = day_in (dated_at entries trade.number)
-
-abbrev pub day_at : List Entry → List Trade → Option (Option ℕ) → Option ℤ
-day_at entries trades None = None
-day_at entries trades (Some None) = None
-day_at entries trades (Some (Some partner)) = day_of entries (slice_get trades partner)
-
-abbrev pub day_by : List Entry → List Trade → List (Option ℕ) → Option ℕ → Option ℤ
-day_by entries trades partners None = None
-day_by entries trades partners (Some place) = day_at entries trades (slice_get partners place)
-
--- the day of the purchase that the row of that number takes back, if it takes one back; of each trade the place is given of what it
--- takes back
-abbrev pub bought_on : List Entry → List Trade → List (Option ℕ) → ℕ → Option ℤ
-bought_on entries trades partners number =
-    day_by entries trades partners (position (λ (trade : Trade). trade.number == number) trades)
+-- the day of the purchase that a row takes back, if it takes one back that isn't left out; the place of the purchase among the rows
+-- that are judged is given
+abbrev pub bought_on : List Named → List (List ℕ) → Option ℕ → Option ℤ
+bought_on rows except None = None
+bought_on rows except (Some place) = day_of except (slice_get rows place)

@@ -1,12 +1,12 @@
 -- The rows of an export, each with what it says (docs/FORMATS.md, Profiles).
-use Rattle.std.specs.Prelude.{◌≡◌, ◌≢◌, ℕ, ◌-◌, ⊤, Bool, true, false, List, ◌∷◌, ◌++◌, count_by, Option, Some, None}
+use Rattle.std.specs.Prelude.{◌≡◌, ◌≢◌, ℕ, ◌+◌, ◌-◌, ◌≤◌, ⊤, Bool, true, false, List, ◌∷◌, ◌++◌, count_by, length, Option, Some, None}
 use Rattle.std.specs.List.{AllZip, slice_get}
 use Rattle.lot_deal_read.specs.Row.{Says, SaysNothing}
 use Rattle.lot_deal_read.specs.declared.says.Dated.{Dated}
 use Rattle.lot_deal_read.specs.declared.says.RowSays.{RowSays}
 use Rattle.lot_deal_read.specs.declared.says.RowSays.TheVariants as says
 use Rattle.lot_profile.specs.declared.profile.Profile.{Profile}
-use Rattle.lot_sheet.specs.Sheet.{SheetRow}
+use Rattle.lot_sheet.specs.Sheet.{SheetRow, most_rows}
 use Rattle.lot_roles.specs.declared.fault.RowFault.TheVariants.{Memory as RowMemory}
 use Rattle.lot_export.specs.declared.fault.ExportFault.{ExportFault}
 use Rattle.lot_export.specs.declared.fault.ExportFault.TheVariants as fault
@@ -43,6 +43,11 @@ abbrev pub FailsAmong : Profile → List SheetRow → ExportFault → Type 0
 FailsAmong profile rows (fault.Row number given) = FailsFirst profile rows (fault.Row number given)
 FailsAmong profile rows fault.Memory = ⊤
 FailsAmong profile rows _ = ⊥
+
+-- each row has its number, counted from 1, and they aren't too many
+pub record AreNumbered (entries : List Entry) : Type 0 where
+  pub each : (place : ℕ) (entry : Entry) → slice_get entries place ≡ Some entry → entry.number ≡ place + 1
+  pub few : length entries ≤ most_rows
 
 abbrev pub dated_by : RowSays → Option Dated
 dated_by says.Skipped = None

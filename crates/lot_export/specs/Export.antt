@@ -1,71 +1,53 @@
 -- The commands of a broker's export, by a profile (docs/FORMATS.md, Profiles).
-use Rattle.std.specs.Prelude.{◌≡◌, ℕ, ⊤, List, filter, length, map, Option}
+use Rattle.std.specs.Prelude.{◌≡◌, ℕ, ⊤, List}
 use Rattle.lot_profile.specs.declared.profile.Profile.{Profile}
-use Rattle.lot_sequence.specs.Cancel.{IsMatching, NothingIsLeft}
-use Rattle.lot_sequence.specs.declared.cancel.Trade.{Trade}
 use Rattle.lot_sheet.specs.Sheet.{AreRows, SheetRow, HasFault as HasSheetFault}
-use Rattle.lot_export.specs.Cancels.{plain, trades_of}
+use Rattle.lot_export.specs.Cancels.{ArePartners}
 use Rattle.lot_sheet.specs.declared.fault.SheetFault.{SheetFault}
 use Rattle.lot_export.specs.Faults.{of_sheet}
 use Rattle.lot_export.specs.Entries.{AreEntries, FailsAmong as RowsFail, skipped_in}
-use Rattle.lot_export.specs.HandedIn.{AreHandedIn, FailsAmong}
+use Rattle.lot_export.specs.HandedIn.{AreHandedIn, FailsAmong, judged_of}
 use Rattle.lot_export.specs.Lines.{AreJudged, IsOrderFault, orders_of}
-use Rattle.lot_export.specs.Named.{is_by_hand}
+use Rattle.lot_export.specs.Named.{by_hand_of}
 use Rattle.lot_export.specs.declared.entry.Entry.{Entry}
 use Rattle.lot_export.specs.declared.export.Export.{Export}
 use Rattle.lot_export.specs.declared.fault.ExportFault.{ExportFault}
 use Rattle.lot_export.specs.declared.fault.ExportFault.TheVariants as fault
 use Rattle.lot_export.specs.declared.handed_in.Sheet.{Sheet}
-use Rattle.lot_export.specs.declared.named.Named.{Named}
 
 -- ---- What rows come to, of which it is known what each says.
 
--- the rows that are judged, and the purchases among them with what takes each back
-pub record AreCompared (profile : Profile) (except : List (List ℕ)) (entries : List Entry) (kept : List Named) (trades : List Trade)
-    : Type 0 where
-  pub judged : AreJudged (orders_of profile.tables) except entries kept
-  pub are_trades : map plain trades ≡ trades_of entries kept
+-- the rows that are judged, and each that takes a purchase back has its own, also where one of the two is left out
+pub record AreMatched (profile : Profile) (sheet : Sheet) : Type 0 where
+  pub judged : AreJudged (orders_of profile.tables) sheet.entries.now sheet.rows.now
+  pub partners : ArePartners sheet.entries.now sheet.rows.now sheet.partners.now
 
--- the same, and each row that takes a purchase back has its own
-pub record AreMatched (profile : Profile) (except : List (List ℕ)) (sheet : Sheet) (kept : List Named) : Type 0 where
-  pub compared : AreCompared profile except sheet.entries.now kept sheet.trades.now
-  pub matching : IsMatching sheet.trades.now (length sheet.trades.now) sheet.partners.now
+-- the rows of a file that are judged, and the names of those that are left out
+pub record IsSheetOf (profile : Profile) (except : List (List ℕ)) (entries : List Entry) (sheet : Sheet) : Type 0 where
+  pub entries_are : sheet.entries.now ≡ entries
+  pub except_are : sheet.except.now ≡ except
+  pub matched : AreMatched profile sheet
 
 -- what rows come to
 pub record IsExportOf (source : List ℕ) (profile : Profile) (except : List (List ℕ)) (entries : List Entry) (export : Export)
     : Type 0 where
   pub sheet : Sheet
-  pub kept : List Named
-  pub entries_are : sheet.entries.now ≡ entries
-  pub matched : AreMatched profile except sheet kept
-  pub given : AreHandedIn source sheet kept (export.given.numbers.items, export.given.commands.items)
-  pub by_hand : export.by_hand ≡ filter (is_by_hand entries) kept
+  pub is : IsSheetOf profile except entries sheet
+  pub given : AreHandedIn source sheet (judged_of sheet) (export.given.numbers.items, export.given.commands.items)
+  pub by_hand : export.by_hand ≡ by_hand_of entries except sheet.rows.now
   pub skipped : export.skipped ≡ skipped_in entries
 
-abbrev pub IsLeftFault : List Trade → ExportFault → Type 0
-IsLeftFault trades (fault.NothingLeft number) = NothingIsLeft trades number
-IsLeftFault trades fault.Memory = ⊤
-IsLeftFault trades _ = ⊥
-
--- a row takes back a purchase that isn't there
-abbrev pub HasNothingLeft : Profile → List (List ℕ) → List Entry → ℕ → Type 0
-HasNothingLeft profile except entries number =
-    (kept : List Named) × (trades : List Trade) × AreCompared profile except entries kept trades × NothingIsLeft trades number
-
--- a row has no command, and is the first such
-pub record HasNoCommand (profile : Profile) (except : List (List ℕ)) (entries : List Entry) (given : ExportFault) : Type 0 where
+-- a row that is to be handed in asks for nothing, and is the first such
+pub record HasNothing (profile : Profile) (except : List (List ℕ)) (entries : List Entry) (given : ExportFault) : Type 0 where
   pub sheet : Sheet
-  pub kept : List Named
-  pub entries_are : sheet.entries.now ≡ entries
-  pub matched : AreMatched profile except sheet kept
-  pub fails : FailsAmong sheet kept given
+  pub is : IsSheetOf profile except entries sheet
+  pub fails : FailsAmong sheet (judged_of sheet) given
 
 -- why rows come to nothing
 abbrev pub FailsOn : Profile → List (List ℕ) → List Entry → ExportFault → Type 0
 FailsOn profile except entries (fault.Order number) = IsOrderFault (orders_of profile.tables) entries (fault.Order number)
-FailsOn profile except entries (fault.NothingLeft number) = HasNothingLeft profile except entries number
-FailsOn profile except entries (fault.Split number) = HasNoCommand profile except entries (fault.Split number)
-FailsOn profile except entries (fault.TooLarge number) = HasNoCommand profile except entries (fault.TooLarge number)
+FailsOn profile except entries (fault.NothingLeft number) = HasNothing profile except entries (fault.NothingLeft number)
+FailsOn profile except entries (fault.TooLarge number) = HasNothing profile except entries (fault.TooLarge number)
 FailsOn profile except entries fault.Memory = ⊤
 FailsOn profile except entries _ = ⊥
 

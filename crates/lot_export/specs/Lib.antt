@@ -6,5 +6,6 @@ pub mod Cancels
 pub mod Deals
 pub mod HandedIn
 pub mod Export
+pub mod Names
 pub mod Show
 pub mod Crumbs

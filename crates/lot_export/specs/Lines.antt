@@ -1,5 +1,5 @@
 -- The rows that have a day, and the order in which they are judged (docs/FORMATS.md, Profiles).
-use Rattle.std.specs.Prelude.{◌≡◌, ℕ, ⊤, List, [], ◌∷◌, filter_map, length, map, Option, Some, None, ℤ}
+use Rattle.std.specs.Prelude.{◌≡◌, ℕ, ⊤, List, filter_map, length, map, Option, Some, None, ℤ}
 use Rattle.std.specs.List.Sorted.{IsPermutation, IsSorted}
 use Rattle.lot_deal_read.specs.declared.says.Dated.{Dated}
 use Rattle.lot_profile.specs.declared.table.Order.{Order}
@@ -8,7 +8,7 @@ use Rattle.lot_sequence.specs.Key.{keys_of, said}
 use Rattle.lot_sequence.specs.Order.{IsFirstAgainst, StandInOrder, row_cmp}
 use Rattle.lot_sequence.specs.declared.row.Row.{Row as Line}
 use Rattle.lot_export.specs.Entries.{dated_by}
-use Rattle.lot_export.specs.Named.{kept_of, number_of}
+use Rattle.lot_export.specs.Named.{named_of}
 use Rattle.lot_export.specs.declared.entry.Entry.{Entry}
 use Rattle.lot_export.specs.declared.fault.ExportFault.{ExportFault}
 use Rattle.lot_export.specs.declared.fault.ExportFault.TheVariants as fault
@@ -45,16 +45,16 @@ orders_of tables = map (λ (table : Table). table.order) tables
 
 -- ---- Rows in the order of judging.
 
--- The rows that are judged: those that have a day, in the order of judging, each with the name of its key, without those that are
--- left out. None stands against the order of its table.
-pub record AreJudged (orders : List Order) (except : List (List ℕ)) (entries : List Entry) (kept : List Named) : Type 0 where
+-- The rows that are judged: those that have a day, in the order of judging, each with the name of its key, also those that are left
+-- out. None stands against the order of its table.
+pub record AreJudged (orders : List Order) (entries : List Entry) (rows : List Named) : Type 0 where
   pub lines : List Line
   pub are_lines : map plain lines ≡ lines_of entries
   pub in_order : StandInOrder orders lines (length lines)
   pub judged : List Line
   pub same : IsPermutation lines judged
   pub sorted : IsSorted (row_cmp orders) judged
-  pub are : kept ≡ kept_of except (map number_of judged) (keys_of (map said judged))
+  pub are : rows ≡ named_of judged (keys_of (map said judged))
 
 -- the first row that stands against the order of its table
 pub record StandsAgainst (orders : List Order) (entries : List Entry) (number : ℕ) : Type 0 where

@@ -1,51 +1,53 @@
-//! The command of a row.
-ghost use Rattle.std.specs.Prelude.{◌≡◌, IfOk, IfErr};
-ghost use Rattle.lot_deal_command.specs.Deal.{IsCommandOf};
-ghost use Rattle.lot_export.specs.Deals.{FailsFor, HasCommandOf, HasNone, cancelling};
+//! What a row asks for.
+ghost use Rattle.std.specs.Prelude.{◌≡◌, false, IfOk, IfErr, Some};
+ghost use Rattle.lot_export.specs.Deals.{FailsFor, HasAsked, HasNone, IsAskedFor, cancelling, narrated};
+ghost use Rattle.lot_export.specs.Named.{is_by_hand_of};
+ghost use Rattle.lot_rounding.specs.Asked.{splitting};
 
 use crate::fault::ExportFault;
-use lot_base::{Day, Note};
-use lot_command::Command;
+use lot_base::{Account, Commodity, Day, Note};
+use lot_command::Narration;
 use lot_deal::{Cancellation, Deal, Terms, Trade};
 use lot_deal_command::{CommandFault, command};
 use lot_deal_read::{Dated, Saying};
+use lot_rounding::{Asked, Change};
 use std::alloc::{AllocError, Global};
 
-/// Returns the command of the row of that number, which isn't posted by hand. Where it takes a purchase back, that was made on the
+/// Returns what the row of that number asks for, which isn't posted by hand. Where it takes a purchase back, that was made on the
 /// given day. The error has the number of the row.
-pub(crate) fn command_of(
+pub(crate) fn asked_of(
     alloc: Global,
     number: usize,
     dated: &Dated,
     bought: Option<Day>,
-) -> Result<Command, ExportFault>
-    ensures ok { IfOk result (HasCommandOf dated.now bought) }
+) -> Result<Asked, ExportFault>
+    requires posted { is_by_hand_of dated.now.saying ≡ false }
+    ensures ok { IfOk result (HasAsked dated.now bought) }
     ensures fault { IfErr result (HasNone number dated.now bought) }
 {
     match &dated.saying {
-        Saying::Deal { deal, .. } => command_for(alloc, number, deal),
+        Saying::ByHand => unreachable!(),
+        Saying::Deal { deal, .. } => asked_for(alloc, number, deal),
         Saying::CancelBuy { note, trade, .. } => match bought {
-            Some(bought) => command_for(
-                alloc,
-                number,
-                &cancelling(dated.day, note, trade, bought)?,
-            ),
-            // Each row that takes a purchase back has one by now.
-            None => Err(ExportFault::Memory),
+            Some(bought) => asked_for(alloc, number, &cancelling(dated.day, note, trade, bought)?),
+            None => Err(ExportFault::NothingLeft { row: number }),
         },
-        Saying::Split { .. } => Err(ExportFault::Split { row: number }),
-        // No row that is posted by hand comes here.
-        Saying::ByHand => Err(ExportFault::Memory),
+        Saying::Split {
+            note,
+            account,
+            symbol,
+            change,
+        } => Ok(splitting(alloc, dated.day, note, account, symbol, *change)?),
     }
 }
 
 /// Returns the command of a deal, which the row of that number says.
-fn command_for(alloc: Global, number: usize, deal: &Deal) -> Result<Command, ExportFault>
-    ensures ok { IfOk result (IsCommandOf deal.now) }
+fn asked_for(alloc: Global, number: usize, deal: &Deal) -> Result<Asked, ExportFault>
+    ensures ok { IfOk result (IsAskedFor deal.now) }
     ensures fault { IfErr result (FailsFor number deal.now) }
 {
     match command(alloc, deal) {
-        Ok(command) => Ok(command),
+        Ok(command) => Ok(Asked::plain(command)),
         Err(CommandFault::TooLarge) => Err(ExportFault::TooLarge { row: number }),
         Err(CommandFault::Memory) => Err(ExportFault::Memory),
     }
@@ -63,4 +65,30 @@ fn cancelling(day: Day, note: &Note, trade: &Trade, bought: Day) -> Result<Deal,
             bought,
         }),
     })
+}
+
+/// Returns the split of a row, with its note as the narration. The only error is out of memory.
+fn splitting(
+    alloc: Global,
+    day: Day,
+    note: &Note,
+    account: &Account,
+    symbol: &Commodity,
+    change: Change,
+) -> Result<Asked, AllocError>
+    ensures { IfOk result (λ asked.
+        asked ≡ splitting day (Some (narrated note.now)) account.now symbol.now change) }
+{
+    let narration = Narration {
+        payee: None,
+        text: note.copy()?,
+    };
+    Asked::splitting(
+        alloc,
+        day,
+        Some(narration),
+        account.copy()?,
+        symbol.copy()?,
+        change,
+    )
 }

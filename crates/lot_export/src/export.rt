@@ -1,22 +1,23 @@
 //! The commands of an export.
 ghost use Rattle.std.specs.Prelude.{◌≡◌, IfOk, IfErr, length};
-ghost use Rattle.lot_export.specs.Export.{FailsOn, HasFault, IsExport, IsExportOf, IsLeftFault};
+ghost use Rattle.lot_export.specs.Cancels.{ArePartners};
+ghost use Rattle.lot_export.specs.Entries.{AreNumbered};
+ghost use Rattle.lot_export.specs.Export.{FailsOn, HasFault, IsExport, IsExportOf};
 ghost use Rattle.lot_export.specs.HandedIn.{HaveNext};
 ghost use Rattle.lot_export.specs.Lines.{AreJudged, IsOrderFault, orders_of};
-ghost use Rattle.lot_sequence.specs.Cancel.{IsMatching};
 
 use crate::cancel::trades;
 use crate::entry::{Entry, entries, skipped};
 use crate::fault::ExportFault;
 use crate::handed_in::{Given, Sheet, handed_in};
 use crate::line::{lines, orders};
-use crate::named::{Named, by_hand, kept};
+use crate::named::{Named, by_hand, with_names};
 use lot_base::Label;
 use lot_command::Items;
 use lot_profile::{Profile, Table};
-use lot_sequence::{CancelFault, Trade, first_against, keys, sort_rows, taken_back};
+use lot_sequence::{first_against, keys, sort_rows, taken_back};
 use lot_sheet::read_sheet;
-use std::alloc::Global;
+use std::alloc::{AllocError, Global};
 
 /// What a broker's export comes to by a profile.
 #[derive(Drop)]
@@ -69,36 +70,35 @@ fn export_of(
     except: &[Label],
     entries: &[Entry],
 ) -> Result<Export, ExportFault>
+    requires numbered { AreNumbered entries.now }
     ensures ok { IfOk result (IsExportOf source.now profile.now except.now entries.now) }
     ensures as_many { IfOk result (λ export.
         length export.given.numbers.items ≡ length export.given.commands.items) }
     ensures next { IfOk result (λ export. HaveNext export.given.numbers.items) }
     ensures fault { IfErr result (FailsOn profile.now except.now entries.now) }
 {
-    let kept = judged(alloc, profile.tables.as_slice(), except, entries)?;
-    let trades = trades(alloc, entries, kept.as_slice())?;
-    let partners = partners(alloc, &trades)?;
+    let rows = judged(alloc, profile.tables.as_slice(), entries)?;
+    let partners = partners(alloc, entries, rows.as_slice())?;
     let sheet = Sheet {
         entries,
-        trades: &trades,
+        rows: rows.as_slice(),
         partners: &partners,
+        except,
     };
     Ok(Export {
-        given: handed_in(alloc, source, &sheet, kept.as_slice())?,
-        by_hand: by_hand(alloc, entries, kept.as_slice())?,
+        given: handed_in(alloc, source, &sheet)?,
+        by_hand: by_hand(alloc, entries, except, rows.as_slice())?,
         skipped: skipped(entries),
     })
 }
 
-/// Returns the rows that have a day, in the order of judging, each with the name of its key, without those whose name is among
-/// `except`.
-fn judged(
+/// Returns the rows that have a day, in the order of judging, each with the name of its key.
+pub(crate) fn judged(
     alloc: Global,
     tables: &[Table],
-    except: &[Label],
     entries: &[Entry],
 ) -> Result<Items<Named>, ExportFault>
-    ensures ok { IfOk result (AreJudged (orders_of tables.now) except.now entries.now) }
+    ensures ok { IfOk result (AreJudged (orders_of tables.now) entries.now) }
     ensures fault { IfErr result (IsOrderFault (orders_of tables.now) entries.now) }
 {
     let orders = orders(alloc, tables)?;
@@ -108,18 +108,17 @@ fn judged(
     }
     sort_rows(&mut lines, &orders);
     let names = keys(alloc, &lines)?;
-    Ok(kept(alloc, except, &lines, &names)?)
+    Ok(with_names(alloc, &lines, &names)?)
 }
 
-/// Returns which purchase each trade takes back, by its place among them.
-fn partners(alloc: Global, trades: &[Trade<'_>]) -> Result<Vec<Option<usize>>, ExportFault>
-    ensures ok { IfOk result
-        (λ partners. IsMatching trades.now (length trades.now) partners.items) }
-    ensures fault { IfErr result (IsLeftFault trades.now) }
+/// Returns which purchase each row takes back, by its place among these. The only error is out of memory.
+fn partners(
+    alloc: Global,
+    entries: &[Entry],
+    rows: &[Named],
+) -> Result<Vec<Option<usize>>, AllocError>
+    ensures { IfOk result (λ partners. ArePartners entries.now rows.now partners.items) }
 {
-    match taken_back(alloc, trades) {
-        Ok(partners) => Ok(partners),
-        Err(CancelFault::NothingLeft { number }) => Err(ExportFault::NothingLeft { row: number }),
-        Err(CancelFault::Memory) => Err(ExportFault::Memory),
-    }
+    let trades = trades(alloc, entries, rows)?;
+    taken_back(alloc, &trades)
 }

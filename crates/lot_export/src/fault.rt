@@ -5,9 +5,9 @@ use thiserror::Error;
 
 /// Why an export gives no commands. Rows are named by their numbers in the file, counted from 1.
 ///
-/// Of several faults the first in this order is reported, where those up to `TooManyRows` are one place of the order. Of several
-/// rows with the same fault, it is the first in the file; but of those of `NothingLeft`, and of those of `Split` and `TooLarge`, it
-/// is the one that is judged first.
+/// Of several faults the first in this order is reported, where those up to `TooManyRows` are one place of the order, and so are
+/// `NothingLeft` and `TooLarge`. Of several rows with the same fault, it is the first in the file; but of those of `NothingLeft` and
+/// `TooLarge` it is the one that is judged first.
 #[derive(Clone, Copy, Debug, PartialEq, Eq, Error)]
 pub enum ExportFault {
     /// A line isn't UTF-8. It has the number of the line, counted from 1 among the lines that aren't blank.
@@ -31,12 +31,9 @@ pub enum ExportFault {
     /// The day of a row stands against the order of its table.
     #[error("the day of row {row} stands against the order")]
     Order { row: usize },
-    /// A row takes back a purchase that isn't there.
+    /// A row takes back a purchase that isn't there, or that is left out.
     #[error("row {row} takes back a purchase that isn't there")]
     NothingLeft { row: usize },
-    /// A row is a split, which isn't posted by an import yet.
-    #[error("row {row} is a split")]
-    Split { row: usize },
     /// A sum that would be posted for a row is too large.
     #[error("a sum of row {row} is too large")]
     TooLarge { row: usize },

@@ -1,9 +1,9 @@
-//! Rows with the names of their keys, and which of them are left out.
-ghost use Rattle.std.specs.Prelude.{◌≡◌, ◌++◌, ◌∷◌, [], IfOk, OnOk, map, filter};
-ghost use Rattle.lot_export.specs.Named.{is_by_hand, is_left_out, kept_of, number_of};
+//! Rows with the names of their keys, and which of them are posted.
+ghost use Rattle.std.specs.Prelude.{◌≡◌, IfOk};
+ghost use Rattle.lot_export.specs.Named.{by_hand_of, is_by_hand, is_left_out, is_posted, named_of};
 
 use crate::entry::{Entry, dated_at};
-use lot_base::Label;
+use lot_base::{Day, Label};
 use lot_command::Items;
 use lot_deal_read::Saying;
 use lot_sequence::Row as Line;
@@ -13,6 +13,7 @@ use std::alloc::{AllocError, Global};
 pub struct Named {
     /// Its number in the file, counted from 1.
     pub number: usize,
+    pub day: Day,
     pub name: Label,
 }
 
@@ -21,77 +22,78 @@ impl Drop for Named {
     fn drop(self) {
         let Named {
             number: _number,
+            day: _day,
             name: _name,
         } = self;
     }
 }
 
-/// Returns rows with these names, without those whose name is one of `except`. The only error is out of memory.
-pub(crate) fn kept(
+impl Named {
+    /// Returns a copy. The only error is out of memory.
+    fn copy(&self) -> Result<Named, AllocError>
+        ensures { IfOk result (λ named. named ≡ self.now) }
+    {
+        Ok(Named {
+            number: self.number,
+            day: self.day,
+            name: self.name.copy()?,
+        })
+    }
+}
+
+/// Returns rows with these names. The only error is out of memory.
+pub(crate) fn with_names(
     alloc: Global,
-    except: &[Label],
     lines: &[Line<'_>],
     names: &[Label],
 ) -> Result<Items<Named>, AllocError>
-    ensures { IfOk result
-        (λ kept. kept ≡ kept_of except.now (map number_of lines.now) names.now) }
+    ensures { IfOk result (λ rows. rows ≡ named_of lines.now names.now) }
 {
-    let mut kept = Items::new(alloc);
+    let mut rows = Items::new(alloc);
     for (line, name) in lines.iter().zip(names) {
-        keep(&mut kept, except, line.number, name)?;
+        rows.push(Named {
+            number: line.number,
+            day: line.day,
+            name: name.copy()?,
+        })?;
     }
-    Ok(kept)
+    Ok(rows)
 }
 
-/// Appends the row of that number with that name, unless the name is one of `except`. The only error is out of memory.
-fn keep(
-    kept: &mut Items<Named>,
-    except: &[Label],
-    number: usize,
-    name: &Label,
-) -> Result<(), AllocError>
-    ensures { OnOk result
-        (kept.new ≡ kept.old ++ kept_of except.now (number ∷ []) (name.now ∷ [])) }
-{
-    if is_left_out(except, name) {
-        return Ok(());
-    }
-    kept.push(Named {
-        number,
-        name: name.copy()?,
-    })?;
-    Ok(())
-}
-
-/// Returns whether a name is one of `except`.
-fn is_left_out(except: &[Label], name: &Label) -> bool
-    ensures { result ≡ is_left_out except.now name.now }
-{
-    except.contains(name)
-}
-
-/// Returns copies of those that are posted by hand. The only error is out of memory.
+/// Returns copies of those that are posted by hand, and aren't left out. The only error is out of memory.
 pub(crate) fn by_hand(
     alloc: Global,
     entries: &[Entry],
-    kept: &[Named],
+    except: &[Label],
+    rows: &[Named],
 ) -> Result<Items<Named>, AllocError>
-    ensures { IfOk result (λ left. left ≡ filter (is_by_hand entries.now) kept.now) }
+    ensures { IfOk result (λ left. left ≡ by_hand_of entries.now except.now rows.now) }
 {
     let mut left = Items::new(alloc);
-    for named in kept {
-        if is_by_hand(entries, named) {
-            left.push(Named {
-                number: named.number,
-                name: named.name.copy()?,
-            })?;
+    for named in rows {
+        if !is_left_out(except, named) && is_by_hand(entries, named) {
+            left.push(named.copy()?)?;
         }
     }
     Ok(left)
 }
 
+/// Returns whether a row is handed in: it isn't left out, nor posted by hand.
+pub(crate) fn is_posted(entries: &[Entry], except: &[Label], named: &Named) -> bool
+    ensures { result ≡ is_posted entries.now except.now named.now }
+{
+    !is_left_out(except, named) && !is_by_hand(entries, named)
+}
+
+/// Returns whether a row has one of the names that are left out.
+pub(crate) fn is_left_out(except: &[Label], named: &Named) -> bool
+    ensures { result ≡ is_left_out except.now named.now }
+{
+    except.contains(&named.name)
+}
+
 /// Returns whether a row is posted by hand.
-pub(crate) fn is_by_hand(entries: &[Entry], named: &Named) -> bool
+fn is_by_hand(entries: &[Entry], named: &Named) -> bool
     ensures { result ≡ is_by_hand entries.now named.now }
 {
     match dated_at(entries, named.number) {

@@ -1,5 +1,5 @@
 -- Digits and names of months, as the code finds them.
-use Rattle.std.proofs.Common.{◌≡◌, ℕ, ◌+◌, ◌-◌, ◌^◌, ◌<◌, ◌≤◌, min, Bool, true, false, cond, eqb, List, [], ◌∷◌, ◌++◌, length, get_or, drop, drop-cons, take, map, Some, None, refl, ap, ◌∙◌, sym, arith, add-one}
+use Rattle.std.proofs.Common.{◌≡◌, ℕ, ◌+◌, ◌-◌, ◌^◌, ◌<◌, ◌≤◌, min, Bool, true, false, not, cond, eqb, List, [], ◌∷◌, ◌++◌, length, get_or, drop, drop-cons, take, map, Some, None, refl, ap, ◌∙◌, sym, arith, add-one}
 use Rattle.std.specs.Prelude.{◌↔◌, IsTrue}
 use Rattle.std.specs.Char.{to_ascii_lowercase}
 use Rattle.std.specs.Str.Parse.{digits_value}
@@ -10,7 +10,7 @@ use Rattle.std.proofs.Math.Nat.{pow-le-pow_right}
 use denote.Ref.{Bor}
 use Rattle.lot_base.specs.Text.{same_text}
 use Rattle.lot_base.proofs.TextLemmas.{one_text, same_text-itself}
-use Rattle.lot_field.specs.Days.{in_digits, month_among}
+use Rattle.lot_field.specs.Days.{begins_with_letter, begins_with_word, in_digits, month_among}
 use Rattle.lot_field.specs.Field.{behind}
 use Rattle.lot_field.specs.Numbers.{are_digits, digits_of}
 use Rattle.lot_field.proofs.NumberLemmas.{digits-themselves, value-below}
@@ -81,6 +81,26 @@ among-later names i month one bytes name same within read test is =
     let no : same_text (map to_ascii_lowercase (get_or names i one).now) (map to_ascii_lowercase name) ≡ false =
     false_from_ne_true _ (λ yes. let true_too : same ≡ true = test.1 (ap (λ (t : List ℕ). map to_ascii_lowercase t) read ∙ one_text _ _ yes) in cc) in
     among-next names i month one name within ∙ rw no refl
+
+-- ---- A word at the start of a text.
+
+module _ (word text first : List ℕ) (same : Bool) (front : first ≡ take (length word) text)
+    (test : IsTrue same ↔ (map to_ascii_lowercase first ≡ map to_ascii_lowercase word)) where
+  pub word-there : (rest : List ℕ) (letter : Bool) → rest ≡ drop (length word) text → letter ≡ begins_with_letter rest → same ≡ true
+      → not letter ≡ begins_with_word word text
+  word-there rest letter back is same_too =
+      let equal : map to_ascii_lowercase (take (length word) text) ≡ map to_ascii_lowercase word =
+      ap (λ (t : List ℕ). map to_ascii_lowercase t) (sym front) ∙ test.0 same_too in
+      let there : same_text (map to_ascii_lowercase word) (map to_ascii_lowercase (take (length word) text)) ≡ true =
+      rw equal (same_text-itself (map to_ascii_lowercase word)) in
+      let behind : begins_with_letter (drop (length word) text) ≡ letter = ap begins_with_letter (sym back) ∙ sym is in
+      rw (there, behind) refl
+
+  pub word-not : same ≡ false → same ≡ begins_with_word word text
+  word-not differ =
+      let other : same_text (map to_ascii_lowercase word) (map to_ascii_lowercase (take (length word) text)) ≡ false =
+      false_from_ne_true _ (λ yes. let true_too : same ≡ true = test.1 (ap (λ (t : List ℕ). map to_ascii_lowercase t) front ∙ sym (one_text _ _ yes)) in cc) in
+      rw (differ, other) refl
 
 -- ---- What stands behind a word.
 

@@ -1,5 +1,5 @@
 -- Days and times in the form that a profile names (docs/FORMATS.md, Profiles).
-use Rattle.std.specs.Prelude.{◌≡◌, ℕ, ◌+◌, ◌*◌, ◌<◌, Bool, true, false, not, ◌==◌, ◌&&◌, ◌||◌, nat_lt, if◌then◌else◌, IsTrue, codes, List, [], ◌∷◌, length, map, take, drop, count_by, flat_map, Option, Some, None, unwrap_or, option_and_then, option_map, ℤ}
+use Rattle.std.specs.Prelude.{◌≡◌, ℕ, ◌+◌, ◌*◌, ◌%◌, ◌<◌, Bool, true, false, not, ◌==◌, ◌&&◌, ◌||◌, nat_lt, if◌then◌else◌, IsTrue, codes, List, [], ◌∷◌, length, map, take, drop, count_by, flat_map, Option, Some, None, unwrap_or, option_and_then, option_map, ℤ}
 use Rattle.std.specs.Option.{option_or}
 use Rattle.std.specs.Char.{is_ascii_alphabetic, is_ascii_digit, to_ascii_lowercase}
 use Rattle.std.specs.List.{list_all}
@@ -10,7 +10,11 @@ use Rattle.lot_field.specs.Field.{behind, cut, is_blank, without_leading}
 use Rattle.lot_field.specs.declared.days.DayPart.{DayPart}
 use Rattle.lot_field.specs.declared.days.DayPart.TheVariants as Parts
 use Rattle.lot_field.specs.declared.days.Date.{Date}
+use Rattle.lot_field.specs.declared.days.Half.{Half}
+use Rattle.lot_field.specs.declared.days.Half.TheVariants.{Morning, Afternoon}
 use Rattle.lot_field.specs.declared.days.Moment.{Moment}
+use Rattle.lot_field.specs.declared.days.Width.{Width}
+use Rattle.lot_field.specs.declared.days.Width.TheVariants.{OneOrTwo, Two}
 
 -- ---- Numbers in digits.
 
@@ -23,6 +27,11 @@ in_digits count text =
 -- the same in two digits, or where there aren't two in one
 abbrev pub in_one_or_two : List ℕ → Option (ℕ × List ℕ)
 in_one_or_two text = option_or (in_digits 2 text) (in_digits 1 text)
+
+-- the number of a month or a day of the month that a text begins with, and what stands behind it
+abbrev pub in_width : Width → List ℕ → Option (ℕ × List ℕ)
+in_width Two text = in_digits 2 text
+in_width OneOrTwo text = in_one_or_two text
 
 -- ---- Days.
 
@@ -52,19 +61,37 @@ with_month date said = (record date { month = said.0 }, said.1)
 abbrev pub with_day : Date → ℕ × List ℕ → Date × List ℕ
 with_day date said = (record date { day = said.0 }, said.1)
 
--- a date with what a part says at the start of a text, and what stands behind it
-abbrev pub read_part : DayPart → Date → List ℕ → Option (Date × List ℕ)
-read_part Parts.Year date text = option_map (with_year date) (in_digits 4 text)
-read_part Parts.Month date text = option_map (with_month date) (in_one_or_two text)
-read_part Parts.MonthName date text = option_map (with_month date) (in_letters text)
-read_part Parts.Day date text = option_map (with_day date) (in_one_or_two text)
-read_part (Parts.Sign sign) date text = option_map (λ rest. (date, rest)) (behind (sign ∷ []) text)
+-- a part that is a number
+abbrev pub is_number : DayPart → Bool
+is_number Parts.Year = true
+is_number Parts.Month = true
+is_number Parts.MonthName = false
+is_number Parts.Day = true
+is_number (Parts.Sign sign) = false
 
--- the same of parts, one after another
-abbrev pub read_parts : List DayPart → Date → List ℕ → Option (Date × List ℕ)
-read_parts [] date text = Some (date, text)
-read_parts (part ∷ parts) date text =
-    option_and_then (λ read. read_parts parts read.0 read.1) (read_part part date text)
+-- whether parts begin with a number
+abbrev pub begin_with_number : List DayPart → Bool
+begin_with_number [] = false
+begin_with_number (part ∷ parts) = is_number part
+
+-- how many digits a month or a day of the month has: two where a number stands right before it, or begins the parts behind it
+abbrev pub width_between : Bool → List DayPart → Width
+width_between behind_number parts = if behind_number || begin_with_number parts then Two else OneOrTwo
+
+-- a date with what a part of that width says at the start of a text, and what stands behind it
+abbrev pub read_part : Width → DayPart → Date → List ℕ → Option (Date × List ℕ)
+read_part width Parts.Year date text = option_map (with_year date) (in_digits 4 text)
+read_part width Parts.Month date text = option_map (with_month date) (in_width width text)
+read_part width Parts.MonthName date text = option_map (with_month date) (in_letters text)
+read_part width Parts.Day date text = option_map (with_day date) (in_width width text)
+read_part width (Parts.Sign sign) date text = option_map (λ rest. (date, rest)) (behind (sign ∷ []) text)
+
+-- the same of parts, one after another, which stand behind a number or don't
+abbrev pub read_parts : Bool → List DayPart → Date → List ℕ → Option (Date × List ℕ)
+read_parts behind_number [] date text = Some (date, text)
+read_parts behind_number (part ∷ parts) date text =
+    option_and_then (λ read. read_parts (is_number part) parts read.0 read.1)
+    (read_part (width_between behind_number parts) part date text)
 
 -- nothing is read yet
 abbrev pub no_date : Date
@@ -87,15 +114,46 @@ seconds_of hours minutes seconds =
 abbrev pub behind_colon : List ℕ → Option (ℕ × List ℕ)
 behind_colon text = option_and_then (in_digits 2) (behind (58 ∷ []) text)
 
--- the seconds, where there are such; what is behind them is read over
-abbrev pub seconds_in : List ℕ → ℕ
-seconds_in text = unwrap_or (option_map (λ said. said.0) (behind_colon text)) 0
+-- the seconds behind minutes, 0 where there are none, and what stands behind them
+abbrev pub seconds_in : List ℕ → ℕ × List ℕ
+seconds_in text = unwrap_or (behind_colon text) (0, text)
 
--- the time that a text begins with
+-- whether a text begins with a letter
+abbrev pub begins_with_letter : List ℕ → Bool
+begins_with_letter [] = false
+begins_with_letter (byte ∷ rest) = is_ascii_alphabetic byte
+
+-- whether a text begins with that word, in any case, and no letter stands behind it
+abbrev pub begins_with_word : List ℕ → List ℕ → Bool
+begins_with_word word text =
+    same_text (map to_ascii_lowercase word) (map to_ascii_lowercase (take (length word) text))
+    && not (begins_with_letter (drop (length word) text))
+
+-- the half of the day that a text begins with
+abbrev pub half_at : List ℕ → Option Half
+half_at text =
+    if begins_with_word (codes "am") text then Some Morning
+    else (if begins_with_word (codes "pm") text then Some Afternoon else None)
+
+-- the hours until a half of the day begins
+abbrev pub hours_before : Half → ℕ
+hours_before Morning = 0
+hours_before Afternoon = 12
+
+-- the hours since midnight: with a half of the day hours are 1 to 12, and 12 is the first of them
+abbrev pub hours_of : Option Half → ℕ → Option ℕ
+hours_of None hours = Some hours
+hours_of (Some half) hours = if nat_lt 0 hours && nat_lt hours 13 then Some (hours_before half + hours % 12) else None
+
+-- the time of hours and minutes, and of what stands behind them: perhaps seconds, and perhaps a half of the day
+abbrev pub time_at : ℕ → ℕ × List ℕ → Option ℕ
+time_at hours minutes =
+    option_and_then (λ all. seconds_of all minutes.0 (seconds_in minutes.1).0)
+    (hours_of (half_at (without_leading (seconds_in minutes.1).1)) hours)
+
+-- the time that a text begins with; what else is behind it is read over
 abbrev pub time_of : List ℕ → Option ℕ
-time_of text =
-    option_and_then (λ hours. option_and_then (λ minutes. seconds_of hours.0 minutes.0 (seconds_in minutes.1))
-    (behind_colon hours.1)) (in_one_or_two text)
+time_of text = option_and_then (λ hours. option_and_then (time_at hours.0) (behind_colon hours.1)) (in_one_or_two text)
 
 -- ---- A day, and perhaps a time behind it.
 
@@ -117,7 +175,7 @@ moment_at _ _ = None
 abbrev pub moment_of : List DayPart → List ℕ → Option Moment
 moment_of parts field =
     option_and_then (λ read. moment_at (date_number (read.0.year, read.0.month, read.0.day)) (time_behind read.1))
-    (read_parts parts no_date (cut field))
+    (read_parts false parts no_date (cut field))
 
 -- ---- The form of days, as a profile writes it.
 

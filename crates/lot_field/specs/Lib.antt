@@ -3,3 +3,4 @@ pub mod Numbers
 pub mod Halves
 pub mod Tests
 pub mod Days
+pub mod Written

@@ -1,7 +1,7 @@
 -- Numbers in the form that a profile names: which texts are numbers, and what each says (docs/FORMATS.md, Profiles).
-use Rattle.std.specs.Prelude.{◌≡◌, ◌≢◌, ℕ, ◌-◌, ◌*◌, ◌%◌, ◌^◌, ◌<◌, Bool, false, not, ◌==◌, ◌&&◌, ◌||◌, if◌then◌else◌, IsTrue, List, [], ◌∷◌, ◌++◌, length, drop, filter, slice_index, Option, Some, None, unwrap_or, option_and_then, ℤ, pos, neg_ℤ}
+use Rattle.std.specs.Prelude.{◌≡◌, ◌≢◌, ℕ, ◌-◌, ◌*◌, ◌%◌, ◌^◌, ◌<◌, Bool, false, not, ◌==◌, ◌&&◌, ◌||◌, if◌then◌else◌, IsTrue, List, [], ◌∷◌, ◌++◌, length, take, drop, max, filter, slice_index, Option, Some, None, option_and_then, ℤ, pos, neg_ℤ}
 use Rattle.std.specs.Char.{is_ascii_digit}
-use Rattle.std.specs.List.{after_first, before_first, list_all}
+use Rattle.std.specs.List.{after_first, before_first, ends_with, list_all, starts_with}
 use Rattle.std.specs.Str.Parse.{digits_value}
 use Rattle.lot_base.specs.Text.{same_text}
 use Rattle.lot_num.specs.Amount.{one, units_limit}
@@ -30,15 +30,18 @@ sign_of text = if slice_index text 0 == 45 then Minus else Plus
 abbrev pub unsigned : List ℕ → List ℕ
 unsigned text = if is_signed text then without_leading (drop 1 text) else text
 
--- a text without the first of the currencies' signs that it begins with
-abbrev pub past_sign : List (List ℕ) → List ℕ → List ℕ
-past_sign [] text = text
-past_sign (sign ∷ signs) text = unwrap_or (behind sign text) (past_sign signs text)
+-- the length of the longest of the currencies' signs that a text begins with, or ends with; 0 where it has none there
+abbrev pub longest_at : (List ℕ → List ℕ → Bool) → List (List ℕ) → List ℕ → ℕ
+longest_at is_there [] text = 0
+longest_at is_there (sign ∷ signs) text = max (if is_there text sign then length sign else 0) (longest_at is_there signs text)
 
--- a text without the first of the currencies' signs that it ends with
+-- a text without the longest of the currencies' signs that it begins with
+abbrev pub past_sign : List (List ℕ) → List ℕ → List ℕ
+past_sign signs text = drop (longest_at (starts_with ◌==◌) signs text) text
+
+-- a text without the longest of the currencies' signs that it ends with
 abbrev pub ahead_of_sign : List (List ℕ) → List ℕ → List ℕ
-ahead_of_sign [] text = text
-ahead_of_sign (sign ∷ signs) text = unwrap_or (before sign text) (ahead_of_sign signs text)
+ahead_of_sign signs text = take (length text - longest_at (ends_with ◌==◌) signs text) text
 
 -- a magnitude, where the currency's sign at the start, or at the end, is read over, and blanks beside it
 abbrev pub past_front : List (List ℕ) → List ℕ → List ℕ

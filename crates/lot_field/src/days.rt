@@ -1,7 +1,7 @@
 //! Days and times in the form that a profile names.
-ghost use Rattle.std.specs.Prelude.{◌≡◌, ◌<◌, ◌≤◌, ◌^◌, map, length, None, Some, IfSome, MatchOption};
+ghost use Rattle.std.specs.Prelude.{◌≡◌, ◌<◌, ◌≤◌, ◌^◌, false, map, length, None, Some, IfSome, MatchOption};
 ghost use Rattle.lot_base.specs.Day.{date_number};
-ghost use Rattle.lot_field.specs.Days.{IsShort, behind_colon, ends_day, in_digits, in_letters, in_one_or_two, month_among, no_date, read_part, read_parts, seconds_in, time_behind, time_of};
+ghost use Rattle.lot_field.specs.Days.{IsShort, begin_with_number, begins_with_letter, begins_with_word, behind_colon, ends_day, half_at, hours_of, in_digits, in_letters, in_one_or_two, in_width, is_number, month_among, no_date, read_part, read_parts, seconds_in, time_behind, time_of, width_between};
 
 use crate::field::{behind, cut_bytes, is_blank, without_leading};
 use crate::numbers::{are_digits, written};
@@ -14,11 +14,11 @@ use std::marker::Model;
 pub enum DayPart {
     /// `YYYY`: the year, four digits.
     Year,
-    /// `MM`: the month, one or two digits.
+    /// `MM`: the month, two digits, or also one where no other number stands right beside it.
     Month,
     /// `Mon`: the first three letters of the month's English name.
     MonthName,
-    /// `DD`: the day of the month, one or two digits.
+    /// `DD`: the day of the month, in as many digits as the month.
     Day,
     /// That byte of ASCII, which is no letter and no digit.
     Sign(u8),
@@ -79,8 +79,8 @@ impl Time {
         self.seconds
     }
 
-    /// Returns the time that a field begins with, as `9:05` or `09:05:30`, or `None` where it begins with none. What is behind
-    /// it is read over (docs/FORMATS.md, Profiles).
+    /// Returns the time that a field begins with, as `9:05`, `09:05:30` or `1:30 PM`, or `None` where it begins with none. What
+    /// else is behind it is read over (docs/FORMATS.md, Profiles).
     pub fn read(field: &str) -> Option<Time>
         ensures { result ≡ time_of (cut field.now) }
     {
@@ -133,10 +133,17 @@ impl Date {
     }
 }
 
+/// How many digits a month or a day of the month has.
+#[derive(Clone, Copy)]
+enum Width {
+    OneOrTwo,
+    Two,
+}
+
 /// Returns the date that a text begins with, part by part, and what stands behind it.
 fn read_parts<'a>(parts: &[DayPart], text: &'a [u8]) -> Option<(Date, &'a [u8])>
-    ensures value { MatchOption result (read_parts parts.now no_date text.now ≡ None)
-        (λ read. read_parts parts.now no_date text.now ≡ Some (read.0, read.1.now)) }
+    ensures value { MatchOption result (read_parts false parts.now no_date text.now ≡ None)
+        (λ read. read_parts false parts.now no_date text.now ≡ Some (read.0, read.1.now)) }
     ensures short { IfSome result (λ read. IsShort read.0) }
 {
     let mut date = Date {
@@ -145,19 +152,54 @@ fn read_parts<'a>(parts: &[DayPart], text: &'a [u8]) -> Option<(Date, &'a [u8])>
         day: 0,
     };
     let mut rest = text;
-    for part in parts {
-        let (read, more) = read_part(*part, date, rest)?;
+    let mut behind_number = false;
+    let mut left = parts;
+    while let [part, others @ ..] = left {
+        let (read, more) = read_part(width_between(behind_number, others), *part, date, rest)?;
         date = read;
         rest = more;
+        behind_number = part.is_number();
+        left = others;
     }
     Some((date, rest))
 }
 
-/// Returns a date with what a part says at the start of a text, and what stands behind it.
-fn read_part(part: DayPart, date: Date, text: &[u8]) -> Option<(Date, &[u8])>
+/// Returns how many digits a month or a day of the month has before these parts: two where it stands right beside another
+/// number, since nothing else tells where it ends.
+fn width_between(behind_number: bool, parts: &[DayPart]) -> Width
+    ensures { result ≡ width_between behind_number parts.now }
+{
+    if behind_number || begin_with_number(parts) {
+        Width::Two
+    } else {
+        Width::OneOrTwo
+    }
+}
+
+/// Returns whether parts begin with a number.
+fn begin_with_number(parts: &[DayPart]) -> bool
+    ensures { result ≡ begin_with_number parts.now }
+{
+    match parts {
+        [part, ..] => part.is_number(),
+        [] => false,
+    }
+}
+
+impl DayPart {
+    /// Returns whether this is written as a number.
+    fn is_number(self) -> bool
+        ensures { result ≡ is_number self }
+    {
+        matches!(self, DayPart::Year | DayPart::Month | DayPart::Day)
+    }
+}
+
+/// Returns a date with what a part of that width says at the start of a text, and what stands behind it.
+fn read_part(width: Width, part: DayPart, date: Date, text: &[u8]) -> Option<(Date, &[u8])>
     requires { IsShort date }
-    ensures value { MatchOption result (read_part part date text.now ≡ None)
-        (λ read. read_part part date text.now ≡ Some (read.0, read.1.now)) }
+    ensures value { MatchOption result (read_part width part date text.now ≡ None)
+        (λ read. read_part width part date text.now ≡ Some (read.0, read.1.now)) }
     ensures short { IfSome result (λ read. IsShort read.0) }
 {
     match part {
@@ -166,7 +208,7 @@ fn read_part(part: DayPart, date: Date, text: &[u8]) -> Option<(Date, &[u8])>
             Some((Date { year, ..date }, rest))
         }
         DayPart::Month => {
-            let (month, rest) = in_one_or_two(text)?;
+            let (month, rest) = in_width(width, text)?;
             Some((Date { month, ..date }, rest))
         }
         DayPart::MonthName => {
@@ -174,10 +216,22 @@ fn read_part(part: DayPart, date: Date, text: &[u8]) -> Option<(Date, &[u8])>
             Some((Date { month, ..date }, rest))
         }
         DayPart::Day => {
-            let (day, rest) = in_one_or_two(text)?;
+            let (day, rest) = in_width(width, text)?;
             Some((Date { day, ..date }, rest))
         }
         DayPart::Sign(sign) => Some((date, behind(&[sign], text)?)),
+    }
+}
+
+/// Returns the number of that width that a text begins with, and what stands behind it.
+fn in_width(width: Width, text: &[u8]) -> Option<(u16, &[u8])>
+    ensures value { MatchOption result (in_width width text.now ≡ None)
+        (λ said. in_width width text.now ≡ Some (said.0, said.1.now)) }
+    ensures bound { IfSome result (λ said. said.0 < 100) }
+{
+    match width {
+        Width::OneOrTwo => in_one_or_two(text),
+        Width::Two => in_digits(2, text),
     }
 }
 
@@ -274,7 +328,9 @@ fn time_of(text: &[u8]) -> Option<Time>
 {
     let (hours, rest) = in_one_or_two(text)?;
     let (minutes, rest) = behind_colon(rest)?;
-    Time::new(hours, minutes, seconds_in(rest))
+    let (seconds, rest) = seconds_in(rest);
+    let hours = hours_of(half_at(without_leading(rest)), hours)?;
+    Time::new(hours, minutes, seconds)
 }
 
 /// Returns the number in two digits behind a colon, and what stands behind it.
@@ -285,12 +341,72 @@ fn behind_colon(text: &[u8]) -> Option<(u16, &[u8])>
     in_digits(2, behind(b":", text)?)
 }
 
-/// Returns the seconds behind minutes, 0 where there are none.
-fn seconds_in(text: &[u8]) -> u16
-    ensures { result ≡ seconds_in text.now }
+/// Returns the seconds behind minutes, 0 where there are none, and what stands behind them.
+fn seconds_in(text: &[u8]) -> (u16, &[u8])
+    ensures seconds { result.0 ≡ (seconds_in text.now).0 }
+    ensures rest { result.1.now ≡ (seconds_in text.now).1 }
 {
     match behind_colon(text) {
-        Some((seconds, _)) => seconds,
-        None => 0,
+        Some(read) => read,
+        None => (0, text),
+    }
+}
+
+/// A half of a day, by a clock of twelve hours.
+#[derive(Clone, Copy)]
+enum Half {
+    /// `AM`
+    Morning,
+    /// `PM`
+    Afternoon,
+}
+
+/// Returns the half of the day that a text begins with.
+fn half_at(text: &[u8]) -> Option<Half>
+    ensures { result ≡ half_at text.now }
+{
+    if begins_with_word(b"am", text) {
+        Some(Half::Morning)
+    } else if begins_with_word(b"pm", text) {
+        Some(Half::Afternoon)
+    } else {
+        None
+    }
+}
+
+/// Returns whether a text begins with a word, in any case, and no letter stands behind it.
+fn begins_with_word(word: &[u8], text: &[u8]) -> bool
+    ensures { result ≡ begins_with_word word.now text.now }
+{
+    if text.len() < word.len() {
+        return false;
+    }
+    let (first, rest) = text.split_at(word.len());
+    first.eq_ignore_ascii_case(word) && !begins_with_letter(rest)
+}
+
+/// Returns whether a text begins with a letter.
+fn begins_with_letter(text: &[u8]) -> bool
+    ensures { result ≡ begins_with_letter text.now }
+{
+    match text {
+        [first, ..] => first.is_ascii_alphabetic(),
+        [] => false,
+    }
+}
+
+/// Returns the hours since midnight, or `None` where a clock of twelve hours doesn't show the hours.
+fn hours_of(half: Option<Half>, hours: u16) -> Option<u16>
+    ensures { result ≡ hours_of half hours }
+{
+    let Some(half) = half else {
+        return Some(hours);
+    };
+    if hours == 0 || hours > 12 {
+        return None;
+    }
+    match half {
+        Half::Morning => Some(hours % 12),
+        Half::Afternoon => Some(12 + hours % 12),
     }
 }

@@ -153,16 +153,18 @@ fn past_front<'a>(signs: &[Text], text: &'a [u8]) -> &'a [u8]
     without_leading(past_sign(signs, text))
 }
 
-/// Returns a text without the first of the signs that it begins with.
+/// Returns a text without the longest of the signs that it begins with.
 fn past_sign<'a>(signs: &[Text], text: &'a [u8]) -> &'a [u8]
     ensures { result.now ≡ past_sign signs.now text.now }
 {
+    let mut longest = 0;
     for sign in signs {
-        if let Some(rest) = behind(sign.as_str().as_bytes(), text) {
-            return rest;
+        let sign = sign.as_str().as_bytes();
+        if text.starts_with(sign) {
+            longest = sign.len().max(longest);
         }
     }
-    text
+    &text[longest..]
 }
 
 /// Returns a text without the currency's sign at its end, and without blanks before it.
@@ -172,16 +174,18 @@ fn ahead_of_back<'a>(signs: &[Text], text: &'a [u8]) -> &'a [u8]
     without_trailing(ahead_of_sign(signs, text))
 }
 
-/// Returns a text without the first of the signs that it ends with.
+/// Returns a text without the longest of the signs that it ends with.
 fn ahead_of_sign<'a>(signs: &[Text], text: &'a [u8]) -> &'a [u8]
     ensures { result.now ≡ ahead_of_sign signs.now text.now }
 {
+    let mut longest = 0;
     for sign in signs {
-        if let Some(front) = before(sign.as_str().as_bytes(), text) {
-            return front;
+        let sign = sign.as_str().as_bytes();
+        if text.ends_with(sign) {
+            longest = sign.len().max(longest);
         }
     }
-    text
+    &text[..text.len() - longest]
 }
 
 // ---- Magnitudes.

@@ -24,6 +24,7 @@ use Rattle.lot_import.proofs.RecordLaws.{same_fields}
 use Rattle.lot_rounding.proofs.NearestLemmas.{one_rounded}
 use Rattle.lot_rounding.specs.declared.asked.Asked.{Asked}
 use Rattle.lot_rounding.specs.declared.asked.RowCash.{RowCash}
+use Rattle.lot_rounding.specs.declared.ratio.Change.{Change}
 
 -- ---- One command.
 
@@ -51,14 +52,15 @@ pub one_command : (accounts : Accounts) (decimals : Option ℕ) (row : Row) (a b
 one_command accounts decimals row a b h k =
     h.is ∙ ap (command_with accounts row) (one_cash decimals row h.cash k.cash h.moves k.moves) ∙ sym k.is
 
-same_asked : (a b : Command) (p q : Option RowCash) → a ≡ b → p ≡ q
-    → ◌≡◌ {A = Asked} (record { command = a; cash = p }) (record { command = b; cash = q })
-same_asked a b p q command cash = rw (command, cash) refl
+same_asked : (a b : Command) (p q : Option RowCash) (r s : Option Change) → a ≡ b → p ≡ q → r ≡ s
+    → ◌≡◌ {A = Asked} (record { command = a; cash = p; split = r }) (record { command = b; cash = q; split = s })
+same_asked a b p q r s command cash split = rw (command, cash, split) refl
 
 pub one_asked : (accounts : Accounts) (decimals : Option ℕ) (row : Row) (a b : Asked)
     → IsAskedOf accounts decimals row a → IsAskedOf accounts decimals row b → a ≡ b
 one_asked accounts decimals row a b h k =
-    same_asked a.command b.command a.cash b.cash (one_command accounts decimals row a.command b.command h.command k.command) (h.cash ∙ sym k.cash)
+    same_asked a.command b.command a.cash b.cash a.split b.split (one_command accounts decimals row a.command b.command h.command k.command)
+    (h.cash ∙ sym k.cash) (h.split ∙ sym k.split)
 
 -- ---- One row.
 

@@ -4,7 +4,7 @@ use Rattle.std.proofs.lemmas.Bool.{leb-true, leb-false}
 use Rattle.std.proofs.lemmas.List.{drop_all, length-map}
 use Rattle.std.proofs.lemmas.Slice.Zip.{AllZip-long}
 use Rattle.std.specs.List.{enumerate_from, range_with_len}
-use Rattle.std.specs.Prelude.{Option}
+use Rattle.std.specs.Prelude.{None, Option}
 use Rattle.lot_command.specs.declared.key.Key.{Key}
 use Rattle.lot_import.specs.Deal.{HasCash, command_with, exact_cash}
 use Rattle.lot_import.specs.Keyed.{AreKeyed, AreKeyedFrom, HaveCash, IsKeyed, is_taken, key_of, remaining, remaining_from}
@@ -53,10 +53,10 @@ module _ (source : List ℕ) (accounts : Accounts) (decimals : Option ℕ) (from
   -- ---- the commands
 
   abbrev made : Row → ℤ → Key × Asked
-  made row cash = (key_of source row, record { command = command_with accounts row cash; cash = exact_cash decimals row })
+  made row cash = (key_of source row, record { command = command_with accounts row cash; cash = exact_cash decimals row; split = None })
 
   made_is : (row : Row) (has : HasCash decimals row) → IsKeyed source accounts decimals row (made row has.0)
-  made_is row has = (refl, record { command = record { cash = has.0; moves = has.1; is = refl }; cash = refl })
+  made_is row has = (refl, record { command = record { cash = has.0; moves = has.1; is = refl }; cash = refl; split = refl })
 
   -- these are the commands of all rows without the first ones
   abbrev IsRestOf : ℕ → List Row → List (Key × Asked) → Type 0

@@ -122,3 +122,4 @@ exact_cash (Some decimals) row = Some (record { place = cash_place row; exact = 
 pub record IsAskedOf (accounts : Accounts) (decimals : Option ℕ) (row : Row) (asked : Asked) : Type 0 where
   pub command : IsCommandOf accounts decimals row asked.command
   pub cash : asked.cash ≡ exact_cash decimals row
+  pub split : asked.split ≡ None

@@ -57,6 +57,7 @@ pub(crate) fn asked(
     Ok(Asked {
         command: command(alloc, row, accounts, decimals)?,
         cash: exact_cash(row, decimals),
+        split: None,
     })
 }
 

@@ -67,7 +67,6 @@ export_line fault.TooManyRows = line (codes "fault C3 TooManyRows")
 export_line (fault.Row number cause) = numbered (codes "row ") number (codes " C2 BadRow ") (name_of_saying cause)
 export_line (fault.Order number) = numbered (codes "row ") number (codes " C6 AgainstOrder") []
 export_line (fault.NothingLeft number) = numbered (codes "row ") number (codes " C7 NoPurchase") []
-export_line (fault.Split number) = numbered (codes "row ") number (codes " C8 Split") []
 export_line (fault.TooLarge number) = numbered (codes "row ") number (codes " C4 InexactAmount") []
 export_line fault.Memory = line (codes "fault Memory")
 

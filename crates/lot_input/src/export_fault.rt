@@ -50,7 +50,6 @@ pub(crate) fn print_export_fault<W: CountedWrite>(
         ExportFault::NothingLeft { row } => {
             print_numbered(writer, "row ", row, " C7 NoPurchase", "")
         }
-        ExportFault::Split { row } => print_numbered(writer, "row ", row, " C8 Split", ""),
         ExportFault::TooLarge { row } => print_numbered(
             writer,
             "row ",

@@ -1,20 +1,26 @@
 -- The text of the key of a row (docs/FORMATS.md, Profiles).
-use Rattle.std.specs.Prelude.{ℕ, ◌+◌, Bool, false, ◌||◌, if◌then◌else◌, List, [], ◌∷◌, Option, unwrap_or}
+use Rattle.std.specs.Prelude.{ℕ, ◌+◌, Bool, false, ◌||◌, if◌then◌else◌, List, [], ◌∷◌, Option, decimal, unwrap_or}
 use Rattle.std.specs.List.{join_with_byte, list_any, slice_get}
 use Rattle.std.specs.Option.{option_and_then, option_map_or}
 use Rattle.lot_base.specs.Text.{same_text}
 use Rattle.lot_field.specs.Field.{cut}
 use Rattle.lot_profile.specs.declared.file.FileForm.{FileForm}
 use Rattle.lot_profile.specs.declared.role.Role.TheVariants as role
+use Rattle.lot_sheet.specs.Column.{is_same}
 use Rattle.lot_sheet.specs.Sheet.{SheetRow}
 use Rattle.lot_roles.specs.Parts.{is_nothing, text_of}
 use Rattle.lot_roles.specs.declared.rules.Rules.{Rules}
 
--- whether the column at a place, counted from 0, is one that some files lack, by the names of the header
-abbrev pub is_optional : List (List ℕ) → Option (List (List ℕ)) → ℕ → Bool
-is_optional optional header place =
+-- whether the column at a place, counted from 0, has a name that is optional, by the names of the header
+abbrev pub is_optional_name : List (List ℕ) → Option (List (List ℕ)) → ℕ → Bool
+is_optional_name optional header place =
     option_map_or (λ (name : List ℕ). list_any (λ (lacked : List ℕ). same_text lacked name) optional)
     (option_and_then (λ (names : List (List ℕ)). slice_get names place) header) false
+
+-- whether it is one that some files lack, by its name or by its number, counted from 1
+abbrev pub is_optional : List (List ℕ) → Option (List (List ℕ)) → ℕ → Bool
+is_optional optional header place =
+    is_optional_name optional header place || list_any (is_same (decimal (place + 1))) optional
 
 -- whether a field is left out of the key
 abbrev pub is_left_out : FileForm → List ℕ → Bool

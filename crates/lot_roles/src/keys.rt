@@ -1,8 +1,8 @@
 //! The text of the key of a row.
-ghost use Rattle.std.specs.Prelude.{◌≡◌, IfOk, Ok, map};
+ghost use Rattle.std.specs.Prelude.{◌≡◌, ◌<◌, ◌-◌, ◌^◌, IfOk, Ok, map};
 ghost use Rattle.std.specs.List.{list_any};
 ghost use Rattle.lot_base.specs.Text.{same_text};
-ghost use Rattle.lot_roles.specs.Keys.{all_fields, is_left_out, is_optional, key_fields, key_text_of};
+ghost use Rattle.lot_roles.specs.Keys.{all_fields, is_left_out, is_optional, is_optional_name, key_fields, key_text_of};
 ghost use Rattle.lot_roles.specs.Reading.{Gives};
 
 use crate::fault::RowFault;
@@ -10,7 +10,7 @@ use crate::parts::{is_nothing, text, with_blanks};
 use crate::rules::Rules;
 use lot_field::{Text, cut};
 use lot_profile::{FileForm, Role};
-use lot_sheet::Row;
+use lot_sheet::{Row, is_number_among};
 use std::alloc::{AllocError, Global};
 
 /// Returns the text of the key of a row: the broker's name of the deal; or where it has none all its fields, joined by one
@@ -50,9 +50,17 @@ fn key_fields<'a>(alloc: Global, form: &FileForm, row: &'a Row) -> Result<Vec<&'
     Ok(fields)
 }
 
-/// Returns whether the column at a place is one that some files lack, by the header of a row.
+/// Returns whether the column at a place is one that some files lack, by its name in the header of a row, or by its number.
 fn is_optional(form: &FileForm, row: &Row, place: usize) -> bool
+    requires { place < 2 ^ 64 - 1 }
     ensures { result ≡ is_optional form.now.optional row.now.header place }
+{
+    is_optional_name(form, row, place) || is_number_among(&form.optional, place + 1)
+}
+
+/// Returns whether the column at a place has a name that is optional, by the header of a row.
+fn is_optional_name(form: &FileForm, row: &Row, place: usize) -> bool
+    ensures { result ≡ is_optional_name form.now.optional row.now.header place }
 {
     let Some(names) = row.header() else {
         return false;

@@ -1,3 +1,4 @@
 pub mod Nearest
 pub mod Rounding
+pub mod Ratio
 pub mod Asked

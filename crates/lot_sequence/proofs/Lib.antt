@@ -3,6 +3,7 @@ pub mod CancelLemmas
 pub mod CountLemmas
 pub mod KeyLaws
 pub mod KeyLemmas
+pub mod LeftLemmas
 pub mod OneList
 pub mod OrderLemmas
 pub mod TextLemmas

@@ -1,41 +1,46 @@
 -- Which purchase a row takes back (docs/FORMATS.md, Profiles).
-use Rattle.std.specs.Prelude.{◌≡◌, ℕ, suc, ◌<◌, ◌==◌, Bool, true, false, not, ◌&&◌, List, length, slice_index_or, slice_set, Option, Some, None, ⊤, ℤ, neg_ℤ}
+use Rattle.std.specs.Prelude.{◌≡◌, ℕ, ◌<◌, List, length, slice_index_or, Option, Some, None, ℤ, neg_ℤ}
 use Rattle.std.specs.List.{slice_get}
-use Rattle.std.specs.Ordering.{int_eq}
-use Rattle.lot_base.specs.Text.{same_text}
-use Rattle.lot_sequence.specs.declared.cancel.CancelFault.{CancelFault}
-use Rattle.lot_sequence.specs.declared.cancel.CancelFault.TheVariants.{Memory, NothingLeft}
 use Rattle.lot_sequence.specs.declared.cancel.Side.{Side}
 use Rattle.lot_sequence.specs.declared.cancel.Side.TheVariants.{Buys, Cancels}
 use Rattle.lot_sequence.specs.declared.cancel.Trade.{Trade}
 
 -- ---- What a row may take back.
 
-abbrev pub cancels_by : Side → Bool
-cancels_by Buys = false
-cancels_by Cancels = true
+-- what is bought: units of a symbol at a price, for an amount of a currency
+pub record Bought : Type 0 where
+  pub symbol : List ℕ
+  pub units : ℤ
+  pub price : Option ℕ
+  pub amount : ℤ
+  pub currency : List ℕ
 
--- whether a row takes a purchase back
-abbrev pub cancels : Trade → Bool
-cancels trade = cancels_by trade.side
+abbrev pub bought_as : Side → Trade → Bought
+bought_as Cancels trade = record {
+  symbol = trade.symbol.now;
+  units = neg_ℤ trade.units;
+  price = trade.price;
+  amount = neg_ℤ trade.amount;
+  currency = trade.currency.now;
+}
+bought_as _ trade = record {
+  symbol = trade.symbol.now;
+  units = trade.units;
+  price = trade.price;
+  amount = trade.amount;
+  currency = trade.currency.now;
+}
 
-abbrev pub same_price : Option ℕ → Option ℕ → Bool
-same_price (Some a) (Some b) = a == b
-same_price None None = true
-same_price _ _ = false
+-- what a purchase buys; of a cancellation what was bought by a purchase that it may take back, of the opposite units and amount
+abbrev pub bought : Trade → Bought
+bought trade = bought_as trade.side trade
 
--- whether the second is a purchase that the first may take back: one symbol, one price and one currency, opposite units and amounts
-abbrev pub reverses : Trade → Trade → Bool
-reverses cancellation purchase =
-    not (cancels purchase) && int_eq purchase.units (neg_ℤ cancellation.units) && int_eq purchase.amount (neg_ℤ cancellation.amount)
-    && same_price purchase.price cancellation.price && same_text purchase.symbol.now cancellation.symbol.now
-    && same_text purchase.currency.now cancellation.currency.now
-
--- the row at a place may take back the one at another
-pub record MayTakeBack (trades : List Trade) (cancellation : Trade) (place : ℕ) : Type 0 where
+-- at that place stands a purchase that a cancellation may take back
+pub record MayTakeBack (rows : List Trade) (cancellation : Trade) (place : ℕ) : Type 0 where
   pub purchase : Trade
-  pub there : slice_get trades place ≡ Some purchase
-  pub reversed : reverses cancellation purchase ≡ true
+  pub there : slice_get rows place ≡ Some purchase
+  pub buys : purchase.side ≡ Buys
+  pub same : bought purchase ≡ bought cancellation
 
 -- ---- What it takes back.
 
@@ -48,56 +53,31 @@ abbrev pub IsTaken : List (Option ℕ) → ℕ → ℕ → Type 0
 IsTaken partners place purchase = (earlier : ℕ) × (earlier < place) × (partner_at partners earlier ≡ Some purchase)
 
 -- at that place stands a purchase before the cancellation that it may take back and no earlier one does, and the last such
-pub record IsLast (trades : List Trade) (partners : List (Option ℕ)) (place : ℕ) (cancellation : Trade) (purchase : ℕ) : Type 0 where
+pub record IsLast (rows : List Trade) (partners : List (Option ℕ)) (place : ℕ) (cancellation : Trade) (purchase : ℕ) : Type 0 where
   pub before : purchase < place
-  pub may : MayTakeBack trades cancellation purchase
+  pub may : MayTakeBack rows cancellation purchase
   pub left : IsTaken partners place purchase → ⊥
-  pub last : (other : ℕ) → purchase < other → other < place → MayTakeBack trades cancellation other → IsTaken partners place other
+  pub last : (other : ℕ) → purchase < other → other < place → MayTakeBack rows cancellation other → IsTaken partners place other
 
--- what a row takes back: a purchase nothing, a cancellation the last that is left
-pub record TakesBack (trades : List Trade) (partners : List (Option ℕ)) (place : ℕ) (trade : Trade) : Type 0 where
-  pub purchase : cancels trade ≡ false → partner_at partners place ≡ None
-  pub cancellation : cancels trade ≡ true → (purchase : ℕ) × (partner_at partners place ≡ Some purchase) × IsLast trades partners place trade purchase
+-- each purchase before the cancellation that it may take back is taken by an earlier one
+abbrev pub IsNoneLeft : List Trade → List (Option ℕ) → ℕ → Trade → Type 0
+IsNoneLeft rows partners place cancellation =
+    (other : ℕ) → other < place → MayTakeBack rows cancellation other → IsTaken partners place other
+
+-- the last purchase that is left, or none where none is left
+abbrev pub IsLastLeft : List Trade → List (Option ℕ) → ℕ → Trade → Option ℕ → Type 0
+IsLastLeft rows partners place cancellation None = IsNoneLeft rows partners place cancellation
+IsLastLeft rows partners place cancellation (Some purchase) = IsLast rows partners place cancellation purchase
+
+abbrev pub TakesAs : List Trade → List (Option ℕ) → ℕ → Trade → Side → Type 0
+TakesAs rows partners place trade Cancels = IsLastLeft rows partners place trade (partner_at partners place)
+TakesAs rows partners place trade _ = partner_at partners place ≡ None
+
+-- what a row takes back: a cancellation the last purchase that is left for it, any other row nothing
+abbrev pub TakesBack : List Trade → List (Option ℕ) → ℕ → Trade → Type 0
+TakesBack rows partners place trade = TakesAs rows partners place trade trade.side
 
 -- each of so many rows takes back what it should
-pub record IsMatching (trades : List Trade) (count : ℕ) (partners : List (Option ℕ)) : Type 0 where
+pub record IsMatching (rows : List Trade) (count : ℕ) (partners : List (Option ℕ)) : Type 0 where
   pub each : length partners ≡ count
-  pub takes : (place : ℕ) (trade : Trade) → place < count → slice_get trades place ≡ Some trade → TakesBack trades partners place trade
-
--- ---- When nothing is left.
-
--- the rows before one take back what they should, and nothing is left for it, which has that number
-pub record NothingIsLeft (trades : List Trade) (number : ℕ) : Type 0 where
-  pub place : ℕ
-  pub cancellation : Trade
-  pub there : slice_get trades place ≡ Some cancellation
-  pub number_is : cancellation.number ≡ number
-  pub is_one : cancels cancellation ≡ true
-  pub partners : List (Option ℕ)
-  pub before : IsMatching trades place partners
-  pub none : (other : ℕ) → other < place → MayTakeBack trades cancellation other → IsTaken partners place other
-
-abbrev pub HasNothingLeft : List Trade → CancelFault → Type 0
-HasNothingLeft trades (NothingLeft number) = NothingIsLeft trades number
-HasNothingLeft trades Memory = ⊤
-
--- ---- For the code alone: purchases that are marked as taken.
-
--- of the earlier rows that it may take back all from that place on are marked
-abbrev pub AreMarked : List Trade → List Bool → Trade → ℕ → Type 0
-AreMarked earlier taken cancellation from =
-    (other : ℕ) → from < suc other → other < length earlier → MayTakeBack earlier cancellation other → slice_index_or taken other false ≡ true
-
-abbrev pub IsNoneLeft : List Trade → List Bool → Trade → Type 0
-IsNoneLeft earlier taken cancellation = AreMarked earlier taken cancellation 0
-
-pub record IsLastLeft (earlier : List Trade) (taken : List Bool) (cancellation : Trade) (place : ℕ) : Type 0 where
-  pub before : place < length earlier
-  pub may : MayTakeBack earlier cancellation place
-  pub unmarked : slice_index_or taken place false ≡ false
-  pub last : AreMarked earlier taken cancellation (suc place)
-
--- what a row takes back of the earlier ones, and the marks before and after it
-pub record Takes (earlier : List Trade) (old new : List Bool) (trade : Trade) (partner : Option ℕ) : Type 0 where
-  pub purchase : cancels trade ≡ false → (partner ≡ None) × (new ≡ old)
-  pub cancellation : cancels trade ≡ true → (place : ℕ) × (partner ≡ Some place) × IsLastLeft earlier old trade place × (new ≡ slice_set old place true)
+  pub takes : (place : ℕ) (trade : Trade) → place < count → slice_get rows place ≡ Some trade → TakesBack rows partners place trade

@@ -1,11 +1,11 @@
 //! Cancelled purchases.
-ghost use Rattle.std.specs.Prelude.{◌≡◌, true, ◌≤◌, length, IfOk, IfErr, MatchOption};
-ghost use Rattle.lot_sequence.specs.Cancel.{HasNothingLeft, IsLastLeft, IsMatching, IsNoneLeft, Takes, cancels, reverses, same_price};
-ghost use Rattle.lot_sequence.specs.declared.cancel.CancelFault.TheVariants.{NothingLeft};
+ghost use Rattle.std.specs.Prelude.{◌≡◌, length, IfOk, OnOk};
+ghost use Rattle.lot_sequence.specs.Cancel.{IsMatching, bought};
+ghost use Rattle.lot_sequence.specs.Left.{KeepsOthers, Moves, MovesAs, bought_of, left_at};
 
 use lot_num::{Rate, Units};
-use std::alloc::{AllocError, AllocFailed, Global};
-use thiserror::Error;
+use std::alloc::{AllocError, Global};
+use std::collections::BTreeMap;
 
 /// What a row does with a purchase.
 #[derive(Clone, Copy)]
@@ -14,13 +14,13 @@ pub enum Side {
     Buys,
     /// It takes one back.
     Cancels,
+    /// It does nothing with one.
+    Neither,
 }
 
-/// A purchase, or what takes one back.
+/// What a row does with a purchase, and what is compared of it: of a row that does nothing with one nothing.
 #[derive(Clone, Copy)]
 pub struct Trade<'a> {
-    /// The number of its row in the file.
-    pub number: usize,
     pub side: Side,
     pub symbol: &'a str,
     pub units: Units,
@@ -29,129 +29,104 @@ pub struct Trade<'a> {
     pub currency: &'a str,
 }
 
-/// Why there is nothing to take back.
-#[derive(Clone, Copy, Debug, Error)]
-pub enum CancelFault {
-    /// No earlier purchase is left that the row with that number may take back.
-    #[error("row {number} takes back a purchase that isn't there")]
-    NothingLeft { number: usize },
-    /// Out of memory.
-    #[error("out of memory")]
-    Memory,
+/// What a purchase and what takes it back have in common, as the purchase says it.
+#[derive(Clone, Copy, PartialEq, Eq, PartialOrd, Ord)]
+struct Mark<'a> {
+    symbol: &'a str,
+    units: Units,
+    price: Option<Rate>,
+    amount: Units,
+    currency: &'a str,
 }
 
-impl From<AllocError> for CancelFault {
-    ghost use Rattle.std.specs.Prelude.{◌≡◌};
-    ghost use Rattle.lot_sequence.specs.declared.cancel.CancelFault.TheVariants.{Memory};
-
-    ghost from_gives = { λ _ e. e ≡ Memory };
-
-    fn from(_error: AllocError) -> CancelFault {
-        CancelFault::Memory
-    }
-}
-
-impl<T: Drop> From<AllocFailed<T>> for CancelFault {
-    ghost use Rattle.std.specs.Prelude.{◌≡◌};
-    ghost use Rattle.lot_sequence.specs.declared.cancel.CancelFault.TheVariants.{Memory};
-
-    ghost from_gives = { λ _ e. e ≡ Memory };
-
-    fn from(_failed: AllocFailed<T>) -> CancelFault {
-        CancelFault::Memory
-    }
-}
-
-/// Returns which purchase each row takes back, by its place among these, which stand in the order of judging. A purchase takes
-/// none back.
+/// Returns which purchase each row takes back, by its place among these, which stand in the order of judging. A row that is no
+/// cancellation takes none back.
 ///
 /// A cancellation takes back the last purchase before it that has its symbol, price and currency and opposite units and amount,
-/// of those that no earlier one takes back. Where there is none, the error is `NothingLeft` with its number, of the first such row.
-pub fn taken_back(alloc: Global, trades: &[Trade<'_>]) -> Result<Vec<Option<usize>>, CancelFault>
-    ensures ok { IfOk result
-        (λ partners. IsMatching trades.now (length trades.now) partners.items) }
-    ensures fault { IfErr result (HasNothingLeft trades.now) }
+/// of those that no earlier one takes back; none, where none is left. The only error is out of memory.
+pub fn taken_back(alloc: Global, rows: &[Trade<'_>]) -> Result<Vec<Option<usize>>, AllocError>
+    ensures { IfOk result (λ partners. IsMatching rows.now (length rows.now) partners.items) }
 {
-    let mut marks = vec![in alloc; false; trades.len()]?;
-    let taken = marks.as_mut_slice();
-    let mut partners = Vec::with_capacity(alloc, trades.len())?;
-    for (place, trade) in trades.iter().enumerate() {
-        let partner = take_back(&trades[..place], taken, trade)?;
+    let mut left = BTreeMap::new(alloc);
+    let mut partners = Vec::with_capacity(alloc, rows.len())?;
+    for (place, trade) in rows.iter().enumerate() {
+        let partner = take_back(alloc, &mut left, place, trade)?;
         partners.push(partner)?;
     }
     Ok(partners)
 }
 
-/// Marks the purchase that a row takes back, if it takes one back, and returns its place. The earlier rows are given, and which
-/// of them are taken back already.
-fn take_back(
-    earlier: &[Trade<'_>],
-    taken: &mut [bool],
-    trade: &Trade<'_>,
-) -> Result<Option<usize>, CancelFault>
-    requires { length earlier.now ≤ length taken.old }
-    ensures ok { IfOk result (Takes earlier.now taken.old taken.new trade.now) }
-    ensures fault { IfErr result (λ fault. (fault ≡ NothingLeft trade.now.number)
-        × (cancels trade.now ≡ true) × IsNoneLeft earlier.now taken.old trade.now) }
+/// Returns the place of the purchase that the row at a place takes back, if it takes one back. The places of the purchases before
+/// it that are left are given, and kept.
+fn take_back<'a>(
+    alloc: Global,
+    left: &mut BTreeMap<Mark<'a>, Vec<usize>>,
+    place: usize,
+    trade: &Trade<'a>,
+) -> Result<Option<usize>, AllocError>
+    ensures { IfOk result (Moves left.old left.new place trade.now) }
 {
-    if !cancels(trade) {
-        return Ok(None);
-    }
-    match last_left(earlier, taken, trade) {
-        Some(place) => {
-            taken[place] = true;
-            Ok(Some(place))
+    let mut places = take_out(alloc, left, trade);
+    let partner = pair(&mut places, trade.side, place)?;
+    put_back(left, trade, places)?;
+    Ok(partner)
+}
+
+/// Keeps the place of a purchase among those that are left, or takes out the last of them for a cancellation, and returns that.
+fn pair(places: &mut Vec<usize>, side: Side, place: usize) -> Result<Option<usize>, AllocError>
+    ensures { IfOk result (MovesAs side place places.old.items places.new.items) }
+{
+    match side {
+        Side::Buys => {
+            places.push(place)?;
+            Ok(None)
         }
-        None => Err(CancelFault::NothingLeft {
-            number: trade.number,
-        }),
+        Side::Cancels => Ok(places.pop()),
+        Side::Neither => Ok(None),
     }
 }
 
-/// Returns the place of the last of the earlier purchases that a row may take back, of those that aren't taken.
-fn last_left(earlier: &[Trade<'_>], taken: &[bool], cancellation: &Trade<'_>) -> Option<usize>
-    requires { length earlier.now ≤ length taken.now }
-    ensures { MatchOption result (IsNoneLeft earlier.now taken.now cancellation.now)
-        (IsLastLeft earlier.now taken.now cancellation.now) }
+/// Takes out the places of the purchases that are left of what a row buys or takes back.
+fn take_out<'a>(
+    alloc: Global,
+    left: &mut BTreeMap<Mark<'a>, Vec<usize>>,
+    trade: &Trade<'a>,
+) -> Vec<usize>
+    ensures places { result.items ≡ left_at left.old (bought trade.now) }
+    ensures others { KeepsOthers left.old left.new (bought trade.now) }
 {
-    for place in (0..earlier.len()).rev() {
-        if !taken[place] && reverses(cancellation, &earlier[place]) {
-            return Some(place);
-        }
-    }
-    None
-}
-
-/// Returns whether a row takes a purchase back.
-fn cancels(trade: &Trade<'_>) -> bool
-    ensures { result ≡ cancels trade.now }
-{
-    match trade.side {
-        Side::Buys => false,
-        Side::Cancels => true,
+    match left.remove(&mark_of(trade)) {
+        Some(places) => places,
+        None => Vec::new(alloc),
     }
 }
 
-/// Returns whether a row is a purchase that the other may take back: both have one symbol, one price and one currency, and
-/// opposite units and amounts.
-fn reverses(cancellation: &Trade<'_>, purchase: &Trade<'_>) -> bool
-    ensures { result ≡ reverses cancellation.now purchase.now }
+/// Puts in the places of the purchases that are left of what a row buys or takes back. The only error is out of memory.
+fn put_back<'a>(
+    left: &mut BTreeMap<Mark<'a>, Vec<usize>>,
+    trade: &Trade<'a>,
+    places: Vec<usize>,
+) -> Result<(), AllocError>
+    ensures places { OnOk result (left_at left.new (bought trade.now) ≡ places.items) }
+    ensures others { OnOk result (KeepsOthers left.old left.new (bought trade.now)) }
 {
-    !cancels(purchase)
-        && purchase.units == cancellation.units.negated()
-        && purchase.amount == cancellation.amount.negated()
-        && same_price(purchase.price, cancellation.price)
-        && purchase.symbol == cancellation.symbol
-        && purchase.currency == cancellation.currency
+    left.insert(mark_of(trade), places)?;
+    Ok(())
 }
 
-/// Returns whether both have one price, or none.
-fn same_price(a: Option<Rate>, b: Option<Rate>) -> bool
-    ensures { result ≡ same_price a b }
+/// Returns the mark of a purchase, or of those that a cancellation may take back.
+fn mark_of<'a>(trade: &Trade<'a>) -> Mark<'a>
+    ensures { bought_of result ≡ bought trade.now }
 {
-    match (a, b) {
-        (Some(a), Some(b)) => a == b,
-        (None, None) => true,
-        _ => false,
+    let (units, amount) = match trade.side {
+        Side::Buys | Side::Neither => (trade.units, trade.amount),
+        Side::Cancels => (trade.units.negated(), trade.amount.negated()),
+    };
+    Mark {
+        symbol: trade.symbol,
+        units,
+        price: trade.price,
+        amount,
+        currency: trade.currency,
     }
 }

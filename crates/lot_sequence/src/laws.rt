@@ -1,7 +1,7 @@
 //! Laws of the definitions that the contracts of this crate cite. Each law is the contract of a function that does
 //! nothing.
 ghost use Rattle.lot_sequence.specs.Key.{KeysAreOfTheDay, KeysDiffer};
-ghost use Rattle.lot_sequence.specs.Matching.{NothingLeftIsNoMatching, OneHasNothingLeft, ThereIsOneMatching};
+ghost use Rattle.lot_sequence.specs.Matching.{EachIsTakenOnce, ThereIsOneMatching};
 ghost use Rattle.lot_sequence.specs.Order.{ThereIsAnOrder, ThereIsOneOrder, TiesHaveOneNumber};
 
 /// Which of two rows is judged first is a total order, and two rows that tie in it have one number.
@@ -25,9 +25,8 @@ pub fn keys_differ()
     ensures { KeysDiffer }
 {}
 
-/// Rows take back what they should in one way; or there is none, and one row has nothing left.
+/// Rows take back what they should in one way, and no purchase is taken back twice.
 pub fn there_is_one_matching()
     ensures one { ThereIsOneMatching }
-    ensures none { NothingLeftIsNoMatching }
-    ensures first { OneHasNothingLeft }
+    ensures once { EachIsTakenOnce }
 {}

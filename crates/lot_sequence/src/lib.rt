@@ -13,7 +13,7 @@ pub mod laws;
 mod order;
 mod row;
 
-pub use cancel::{CancelFault, Side, Trade, taken_back};
+pub use cancel::{Side, Trade, taken_back};
 pub use key::keys;
 pub use order::{first_against, sort_rows};
 pub use row::Row;

@@ -1,10 +1,9 @@
 -- Blank records are text, and no lines.
-use Rattle.std.proofs.Common.{◌≡◌, ℕ, zero, suc, ◌<◌, lit<, ◌==◌, ◌||◌, ◌&&◌, Bool, true, false, not, List, [], ◌∷◌, ◌∙◌, Result, Ok, Err, IsErrAnd, IfErr, filter, refl, sym, ap, subst, arith}
+use Rattle.std.proofs.Common.{◌≡◌, ℕ, zero, suc, ◌<◌, lit<, ◌&&◌, Bool, true, false, List, [], ◌∷◌, ◌∙◌, Result, Ok, Err, IsErrAnd, IfErr, filter, refl, sym, ap, subst, arith}
 use Rattle.std.proofs.lemmas.Bool.Decides.{nat_tests}
 use Rattle.std.proofs.lemmas.Str.{IsUtf8-from_ascii}
-use Rattle.std.specs.Prelude.{IsUtf8}
 use Rattle.std.specs.Str.{IsAscii}
-use Rattle.std.specs.List.{All, list_all}
+use Rattle.std.specs.List.{list_all}
 use Rattle.csv.specs.Records.{AllText}
 use Rattle.lot_field.specs.Field.{is_blank}
 use Rattle.lot_sheet.specs.Column.{is_blank_field}

@@ -1,7 +1,7 @@
 -- What is left of a list, item by item.
-use Rattle.std.proofs.Common.{◌≡◌, ◌⊎◌, ℕ, suc, ◌+◌, ◌<◌, ◌≤◌, inl, inr, subst, Bool, true, false, ◌&&◌, ◌||◌, IsTrue, List, [], ◌∷◌, ◌++◌, length, drop, take, get_or, refl, sym, ap, ◌∙◌, add-one, drop-cons, below_more}
+use Rattle.std.proofs.Common.{◌≡◌, ℕ, ◌+◌, ◌<◌, ◌≤◌, subst, Bool, true, false, ◌&&◌, ◌||◌, IsTrue, List, ◌∷◌, length, drop, get_or, sym, ap, ◌∙◌, add-one, drop-cons, below_more}
 use Rattle.std.proofs.lemmas.List.{drop_all}
-use Rattle.std.specs.List.{flat_map, list_all, list_any}
+use Rattle.std.specs.List.{list_all, list_any}
 
 -- what is left begins with the next item
 pub drop_step : {X : Type 0} (xs : List X) (i : ℕ) (d : X) → i < length xs → drop i xs ≡ get_or xs i d ∷ drop (i + 1) xs

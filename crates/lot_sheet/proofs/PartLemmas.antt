@@ -1,12 +1,12 @@
 -- Of which table a line is a row.
-use Rattle.std.proofs.Common.{◌≡◌, ◌↔◌, ℕ, ◌+◌, ◌-◌, ◌<◌, ◌≤◌, Bool, true, false, List, [], ◌∷◌, ◌++◌, length, drop, take, get_or, Option, refl, sym, ap, subst, ◌∙◌, arith, length-append, length-drop}
+use Rattle.std.proofs.Common.{◌≡◌, ◌↔◌, ℕ, ◌+◌, ◌-◌, ◌<◌, Bool, true, false, List, ◌∷◌, ◌++◌, length, drop, take, get_or, Option, refl, sym, ap, subst, ◌∙◌, arith, length-append, length-drop}
 use Rattle.std.proofs.Math.Seq.{drop-append-add, get_or-append_seam, take-length}
 use Rattle.std.proofs.lemmas.List.{get_or-take, length-take-le, take-append-drop}
 use Rattle.std.specs.Bool.{MatchBool}
 use Rattle.std.specs.List.{list_any}
 use Rattle.lot_profile.specs.declared.file.Condition.{Condition}
 use Rattle.lot_profile.specs.declared.file.FileForm.{FileForm}
-use Rattle.lot_sheet.specs.declared.fault.RowCause.TheVariants.{NoTable, TwoTables, Longer}
+use Rattle.lot_sheet.specs.declared.fault.RowCause.TheVariants.{Longer}
 use Rattle.lot_sheet.specs.Column.{Meets}
 use Rattle.lot_sheet.specs.Header.{Standing, has_begun}
 use Rattle.lot_sheet.specs.Part.{BadRow, IsBody, IsBodyBy, IsFirstTaker, IsTakenByOne, IsTakenByTwo, Outside, Part, RowOf, TakenByNone, Takes, is_longer, row_or_longer}

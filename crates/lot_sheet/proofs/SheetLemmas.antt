@@ -1,9 +1,9 @@
 -- How the rows of a file, or its fault, follow from the lines that are read one after another.
-use Rattle.std.proofs.Common.{◌≡◌, ℕ, ◌+◌, ◌<◌, ◌≤◌, Bool, true, false, ◌||◌, if◌then◌else◌, List, [], ◌∷◌, ◌++◌, length, map, Option, Some, None, Err, refl, sym, ap, subst, ◌∙◌, arith, append_assoc, length-append}
+use Rattle.std.proofs.Common.{◌≡◌, ℕ, ◌+◌, ◌≤◌, Bool, true, false, ◌||◌, if◌then◌else◌, List, [], ◌∷◌, ◌++◌, length, map, Option, Some, None, Err, refl, sym, ap, subst, ◌∙◌, arith, append_assoc, length-append}
 use Rattle.std.proofs.lemmas.List.{append-nil}
 use Rattle.std.proofs.lemmas.List.Elements.{All-push}
-use Rattle.std.specs.Bool.{MatchBool, ⊤}
-use Rattle.std.specs.List.{All, list_any}
+use Rattle.std.specs.Bool.{MatchBool}
+use Rattle.std.specs.List.{list_any}
 use Rattle.std.specs.Option.{option_or}
 use Rattle.csv.specs.Records.{AllText}
 use Rattle.lot_profile.specs.declared.file.Delimiter.{Delimiter}
@@ -14,10 +14,10 @@ use Rattle.lot_sheet.specs.declared.fault.SheetFault.{SheetFault}
 use Rattle.lot_sheet.specs.declared.fault.SheetFault.TheVariants as Faults
 use Rattle.lot_sheet.specs.Column.{names_in}
 use Rattle.lot_sheet.specs.Header.{Standing, heads, is_header_of, last_header, standing, with_header}
-use Rattle.lot_sheet.specs.Part.{BadHeading, BadName, BadRow, Heading, IsBodyBy, IsPart, IsPartBy, Outside, Part, RowOf, first_bad, header_names, heading}
+use Rattle.lot_sheet.specs.Part.{BadHeading, BadName, BadRow, Heading, IsBodyBy, IsPart, IsPartBy, Outside, Part, RowOf, first_bad, header_columns, heading}
 use Rattle.lot_sheet.specs.Reading.{GivesRow, IsHeaderFault, IsReadFault}
 use Rattle.lot_profile.specs.declared.file.Encoding.{Encoding}
-use Rattle.lot_sheet.specs.Sheet.{SayAll, file_lines, text_lines, text_of, AreParts, HasPart, HaveFault, IsGood, IsRowPart, Say, SheetRow, StopsAt, most_rows, rows_from}
+use Rattle.lot_sheet.specs.Sheet.{SayAll, file_lines, text_lines, text_of, AreParts, HasPart, HaveFault, IsGood, Say, SheetRow, StopsAt, most_rows, rows_from}
 
 -- ---- How the tables stand behind a line.
 
@@ -132,11 +132,11 @@ module _ (form : FileForm) (tables : List Table) (above : List (List (List ℕ))
 
   -- it is a header
   pub heads_part : list_any (is_header_of form.delimiter number line) stands ≡ true → (bad : Option BadName)
-      → bad ≡ first_bad form.optional (names_in line) (header_names form.delimiter number line stands)
+      → bad ≡ first_bad form.optional (names_in line) (header_columns form.delimiter number line stands)
       → IsPart form tables above line (heading bad)
   heads_part e bad h =
       moved (λ (ss : List Standing) (n : ℕ). IsPartBy form ss n line (heading bad))
-      (subst (λ (b : Bool). MatchBool b (heading bad ≡ heading (first_bad form.optional (names_in line) (header_names form.delimiter number line stands)))
+      (subst (λ (b : Bool). MatchBool b (heading bad ≡ heading (first_bad form.optional (names_in line) (header_columns form.delimiter number line stands)))
       (IsBodyBy form stands line (heading bad))) (sym e) (ap heading h))
 
   -- it is none
@@ -144,7 +144,7 @@ module _ (form : FileForm) (tables : List Table) (above : List (List (List ℕ))
       → IsPart form tables above line part
   body_part e part h =
       moved (λ (ss : List Standing) (n : ℕ). IsPartBy form ss n line part)
-      (subst (λ (b : Bool). MatchBool b (part ≡ heading (first_bad form.optional (names_in line) (header_names form.delimiter number line stands)))
+      (subst (λ (b : Bool). MatchBool b (part ≡ heading (first_bad form.optional (names_in line) (header_columns form.delimiter number line stands)))
       (IsBodyBy form stands line part)) (sym e) h)
 
   pub stands_headed : (made : List Standing) → made ≡ map (with_header form.delimiter number line) stands
@@ -211,14 +211,14 @@ module _ (form : FileForm) (tables : List Table) (lines above : List (List (List
     -- a header
     pub header_fault : list_any (is_header_of form.delimiter number line) stands ≡ true → (names : List (List ℕ)) → names ≡ names_in line
         → (fault : SheetFault)
-        → IsHeaderFault number (first_bad form.optional names (header_names form.delimiter number line stands)) fault → HaveFault form tables lines fault
+        → IsHeaderFault number (first_bad form.optional names (header_columns form.delimiter number line stands)) fault → HaveFault form tables lines fault
     header_fault e names same (Faults.BadHeader n name cause) h =
         let bad : BadName = (name, cause) in (
           above,
           rows,
           wrong form tables above rows say line text lines below (BadHeading name cause) all
               (heads_part form tables above line stands number is at e (Some bad)
-              (h.1 ∙ ap (λ (ns : List (List ℕ)). first_bad form.optional ns (header_names form.delimiter number line stands)) same)),
+              (h.1 ∙ ap (λ (ns : List (List ℕ)). first_bad form.optional ns (header_columns form.delimiter number line stands)) same)),
           h.0 ∙ at,
         )
     header_fault e names same (Faults.NotText n) h = absurd h

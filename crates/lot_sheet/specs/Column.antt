@@ -1,5 +1,5 @@
 -- Which field a column means in a line, and what is asked of it (docs/FORMATS.md, Profiles).
-use Rattle.std.specs.Prelude.{◌-◌, ◌==◌, ℕ, Bool, if◌then◌else◌, List, [], map, Option, Some, None, get_or}
+use Rattle.std.specs.Prelude.{◌-◌, ◌==◌, ℕ, Bool, if◌then◌else◌, List, [], map, Option, Some, None, decimal, get_or}
 use Rattle.std.specs.Cmp.Lexicographic.{pointwise}
 use Rattle.std.specs.List.{All, Any, list_all, position, slice_get}
 use Rattle.std.specs.Option.{option_and_then, option_map, option_map_or, unwrap_or}
@@ -20,6 +20,11 @@ abbrev pub is_same : List ℕ → List ℕ → Bool
 is_same name other = pointwise ◌==◌ other name
 
 -- ---- Columns.
+
+-- how a profile and its faults name a column: by its name, or by the digits of its number
+abbrev pub column_name : Column → List ℕ
+column_name (Number number) = decimal number
+column_name (Named name) = name
 
 -- the names of a header: its fields, without the blanks at their ends
 abbrev pub names_in : List (List ℕ) → List (List ℕ)

@@ -1,5 +1,5 @@
 -- What each line of a file is, by the lines above it (docs/FORMATS.md, Profiles).
-use Rattle.std.specs.Prelude.{◌≡◌, ◌+◌, ◌==◌, ℕ, Bool, true, false, not, if◌then◌else◌, List, [], ◌∷◌, ◌++◌, drop, length, count_by, Option, Some, None}
+use Rattle.std.specs.Prelude.{◌≡◌, ◌+◌, ◌==◌, ℕ, Bool, true, false, not, if◌then◌else◌, List, [], ◌∷◌, ◌++◌, drop, length, count_by, decimal, nat_le, Option, Some, None}
 use Rattle.std.specs.Bool.{MatchBool}
 use Rattle.std.specs.List.{All, flat_map, list_any}
 use Rattle.lot_profile.specs.declared.file.Column.{Column}
@@ -16,47 +16,52 @@ use Rattle.lot_sheet.specs.declared.fault.NameCause.{NameCause}
 use Rattle.lot_sheet.specs.declared.fault.NameCause.TheVariants.{Missing, Twice}
 use Rattle.lot_sheet.specs.declared.fault.RowCause.{RowCause}
 use Rattle.lot_sheet.specs.declared.fault.RowCause.TheVariants.{NoTable, TwoTables, Longer}
-use Rattle.lot_sheet.specs.Column.{Meets, is_blank_field, is_same, names_in}
+use Rattle.lot_sheet.specs.Column.{Meets, column_name, is_blank_field, is_same, names_in}
 use Rattle.lot_sheet.specs.Header.{Standing, has_begun, is_header_of, standing}
 
--- ---- The names that a table uses.
+-- ---- The columns that a table uses.
 
--- the name of a column
-abbrev pub name_of : Column → List (List ℕ)
-name_of (column.Number number) = []
-name_of (column.Named name) = name ∷ []
-
--- those of a source
-abbrev pub source_names : Source → List (List ℕ)
-source_names (source.Column of) = name_of of
-source_names (source.Constant text) = []
-source_names (source.Until of text) = name_of of
+-- that of a source
+abbrev pub source_columns : Source → List Column
+source_columns (source.Column of) = of ∷ []
+source_columns (source.Constant text) = []
+source_columns (source.Until of text) = of ∷ []
 
 -- those of where roles are found
-abbrev pub role_names : List Sources → List (List ℕ)
-role_names roles = flat_map (λ (sources : Sources). flat_map source_names sources.from) roles
+abbrev pub role_columns : List Sources → List Column
+role_columns roles = flat_map (λ (sources : Sources). flat_map source_columns sources.from) roles
 
 -- those of conditions
-abbrev pub asked_names : List Condition → List (List ℕ)
-asked_names conditions = flat_map (λ (condition : Condition). name_of condition.column) conditions
+abbrev pub asked_columns : List Condition → List Column
+asked_columns conditions = flat_map (λ (condition : Condition). condition.column ∷ []) conditions
 
 -- those of a kind
-abbrev pub kind_names : KindRule → List (List ℕ)
-kind_names kind = role_names kind.columns ++ asked_names kind.when
+abbrev pub kind_columns : KindRule → List Column
+kind_columns kind = role_columns kind.columns ++ asked_columns kind.when
 
 -- those of a table
-abbrev pub table_names : Table → List (List ℕ)
-table_names table = role_names table.columns ++ asked_names table.rows ++ flat_map kind_names table.kinds
+abbrev pub table_columns : Table → List Column
+table_columns table = role_columns table.columns ++ asked_columns table.rows ++ flat_map kind_columns table.kinds
 
 -- ---- What is wrong with a header.
+
+-- what is wrong where a header hasn't that column: nothing, where it may be absent
+abbrev pub lacking : List (List ℕ) → List ℕ → Option NameCause
+lacking optional name = if list_any (is_same name) optional then None else Some Missing
 
 -- what is wrong with a name: it has to stand once in a header, or not at all where it may be absent
 abbrev pub name_fault : List (List ℕ) → List (List ℕ) → List ℕ → Option NameCause
 name_fault optional header name =
     let standing = count_by (is_same name) header in
     if standing == 1 then None
-    else if standing == 0 then (if count_by (is_same name) optional == 0 then Some Missing else None)
+    else if standing == 0 then lacking optional name
     else Some Twice
+
+-- what is wrong with a column; one with a number has to be a field of the header, or may be absent
+abbrev pub column_fault : List (List ℕ) → List (List ℕ) → Column → Option NameCause
+column_fault optional header (column.Number number) =
+    if nat_le number (length header) then None else lacking optional (decimal number)
+column_fault optional header (column.Named name) = name_fault optional header name
 
 -- a name, and what is wrong with it
 abbrev pub BadName : Type 0
@@ -67,18 +72,19 @@ abbrev pub or_bad : List ℕ → Option NameCause → Option BadName → Option 
 or_bad name None other = other
 or_bad name (Some cause) other = Some (name, cause)
 
--- the first of these names with which something is wrong
-abbrev pub first_bad : List (List ℕ) → List (List ℕ) → List (List ℕ) → Option BadName
+-- the name of the first of these columns with which something is wrong
+abbrev pub first_bad : List (List ℕ) → List (List ℕ) → List Column → Option BadName
 first_bad optional header [] = None
-first_bad optional header (name ∷ names) = or_bad name (name_fault optional header name) (first_bad optional header names)
+first_bad optional header (column ∷ columns) =
+    or_bad (column_name column) (column_fault optional header column) (first_bad optional header columns)
 
--- the names that a table uses, if the line of that number is its header
-abbrev pub names_under : Delimiter → ℕ → List (List ℕ) → Standing → List (List ℕ)
-names_under delimiter number line s = if is_header_of delimiter number line s then table_names s.0 else []
+-- the columns that a table uses, if the line of that number is its header
+abbrev pub columns_under : Delimiter → ℕ → List (List ℕ) → Standing → List Column
+columns_under delimiter number line s = if is_header_of delimiter number line s then table_columns s.0 else []
 
--- the names that the tables use of which a line is a header
-abbrev pub header_names : Delimiter → ℕ → List (List ℕ) → List Standing → List (List ℕ)
-header_names delimiter number line tables = flat_map (names_under delimiter number line) tables
+-- the columns that the tables use of which a line is a header
+abbrev pub header_columns : Delimiter → ℕ → List (List ℕ) → List Standing → List Column
+header_columns delimiter number line tables = flat_map (columns_under delimiter number line) tables
 
 -- ---- Of which table a line is a row.
 
@@ -159,7 +165,7 @@ IsBodyBy form tables line part = MatchBool (list_any has_begun tables) (IsBody f
 abbrev pub IsPartBy : FileForm → List Standing → ℕ → List (List ℕ) → Part → Type 0
 IsPartBy form tables number line part =
     MatchBool (list_any (is_header_of form.delimiter number line) tables)
-    (part ≡ heading (first_bad form.optional (names_in line) (header_names form.delimiter number line tables)))
+    (part ≡ heading (first_bad form.optional (names_in line) (header_columns form.delimiter number line tables)))
     (IsBodyBy form tables line part)
 
 -- the line is that, with these lines above it

@@ -9,7 +9,8 @@ pub enum SheetFault {
     },
     /// No table begins: no line is a header, and each table has one.
     NoHeader,
-    /// Something is wrong with a name that a table uses: the number of the header's line, and the first such name.
+    /// Something is wrong with a column that a table uses: the number of the header's line, and the first such column, by its name
+    /// or by its number.
     BadHeader {
         line: usize,
         name: Text,
@@ -47,12 +48,12 @@ impl Drop for SheetFault {
     }
 }
 
-/// What is wrong with a name that a table uses.
+/// What is wrong with a column that a table uses.
 #[derive(Clone, Copy, Debug, PartialEq, Eq)]
 pub enum NameCause {
-    /// The header hasn't it, and it isn't one of the columns that some files lack.
+    /// The header hasn't its name, or has fewer fields than its number, and it isn't one of the columns that some files lack.
     Missing,
-    /// The header has it twice or more.
+    /// The header has its name twice or more.
     Twice,
 }
 

@@ -5,7 +5,7 @@
 //! - `column`: the field that a column means in a row (`field`, `field_if_any`), and whether a row meets conditions (`meets`).
 //! - `lines`: the lines of a file.
 //! - `header`: which lines are headers, and how the tables stand at a line.
-//! - `names`: what is wrong with the names of a header.
+//! - `names`: what is wrong with the columns of a header (`is_number_among`: whether a column is named by its number).
 //! - `part`: what a line is.
 //! - `fault`: why there are no rows.
 //! - `laws`: laws of the definitions that the contract of `read_sheet` cites.
@@ -22,5 +22,6 @@ mod sheet;
 
 pub use column::{field, field_if_any, meets};
 pub use fault::{NameCause, RowCause, SheetFault};
+pub use names::is_number_among;
 pub use row::Row;
 pub use sheet::read_sheet;

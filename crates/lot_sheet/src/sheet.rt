@@ -5,14 +5,14 @@ ghost use Rattle.csv.specs.Records.{AllText, fields_of};
 ghost use Rattle.lot_profile.specs.declared.table.Table.{Table};
 ghost use Rattle.lot_sheet.specs.Column.{names_in};
 ghost use Rattle.lot_sheet.specs.Header.{is_header_of};
-ghost use Rattle.lot_sheet.specs.Part.{first_bad, header_names};
+ghost use Rattle.lot_sheet.specs.Part.{first_bad, header_columns};
 ghost use Rattle.lot_sheet.specs.Reading.{GivesRow, IsAt, IsHeaderFault, IsOpen, IsReadFault, lines_left};
 ghost use Rattle.lot_sheet.specs.Sheet.{AreRows, HasFault, HaveFault, SayAll, text_lines};
 
 use crate::fault::SheetFault;
 use crate::header::{Standing, at_start, behind_header, has_begun, is_header, names_of};
 use crate::lines::{ReadFault, decoded, next_line, reader, without_mark};
-use crate::names::Given;
+use crate::names::{Given, name_of};
 use crate::part::table_of;
 use crate::row::{Names, Row};
 use csv::{Reader, StringRecord};
@@ -29,7 +29,7 @@ const MOST_ROWS: usize = 100_000;
 /// The error is the first of these in the order of the lines:
 ///
 /// - `NotText`: a line isn't UTF-8;
-/// - `BadHeader`: a header lacks a name that a table uses, or has it twice;
+/// - `BadHeader`: a header lacks a column that a table uses, or has its name twice;
 /// - `BadRow`: one of the first 100,000 lines that have to be rows is a row of no table or of two, or is too long;
 /// - `TooManyRows`: there is one more;
 /// - `NoHeader`: the lines are at their end, and no table has begun.
@@ -173,7 +173,7 @@ impl Sheet<'_> {
             return Err(SheetFault::Memory);
         };
         let names = shared_names(alloc, line)?;
-        check_names(form, self.number, line, &names, &self.tables)?;
+        check_columns(alloc, form, self.number, line, &names, &self.tables)?;
         self.tables = behind_header(
             alloc,
             form.delimiter,
@@ -223,8 +223,9 @@ fn shared_names(alloc: Global, line: &StringRecord) -> Result<Names, SheetFault>
     Ok(Rc::new(alloc, names)?)
 }
 
-/// Tests the names that the tables use of which the line of that number is a header.
-fn check_names(
+/// Tests the columns that the tables use of which the line of that number is a header.
+fn check_columns(
+    alloc: Global,
     form: &FileForm,
     number: usize,
     line: &StringRecord,
@@ -233,10 +234,10 @@ fn check_names(
 ) -> Result<(), SheetFault>
     ensures ok { OnOk result
         (None ≡ first_bad form.now.optional names.now.value
-        (header_names form.now.delimiter number (fields_of line.now) tables.now)) }
+        (header_columns form.now.delimiter number (fields_of line.now) tables.now)) }
     ensures fault { IfErr result (λ fault. IsHeaderFault number
         (first_bad form.now.optional names.now.value
-        (header_names form.now.delimiter number (fields_of line.now) tables.now)) fault) }
+        (header_columns form.now.delimiter number (fields_of line.now) tables.now)) fault) }
 {
     let given = Given {
         header: names.as_ref(),
@@ -246,7 +247,7 @@ fn check_names(
         None => Ok(()),
         Some(bad) => Err(SheetFault::BadHeader {
             line: number,
-            name: bad.name.copy()?,
+            name: name_of(alloc, bad.column)?,
             cause: bad.cause,
         }),
     }

@@ -7,10 +7,10 @@ use Rattle.lot_base.specs.Text.{same_text}
 use Rattle.lot_num.specs.Amount.{IsUnits, units_limit}
 use Rattle.lot_split.specs.Crumbs.{whole_of}
 use Rattle.lot_split.specs.Lots.{AreDivided, Becomes, cost_of, crumb_in}
-use Rattle.lot_split.specs.Ratio.{IsProper}
+use Rattle.lot_rounding.specs.Ratio.{IsProper}
 use Rattle.lot_split.specs.Split.{most_divided}
 use Rattle.lot_split.specs.declared.lot.HeldLot.{HeldLot}
-use Rattle.lot_split.specs.declared.ratio.Ratio.{Ratio}
+use Rattle.lot_rounding.specs.declared.ratio.Ratio.{Ratio}
 use Rattle.lot_split.proofs.NumberLemmas.{near_cost}
 use Rattle.lot_split.proofs.SumLemmas.{is_in, sum_where_part}
 

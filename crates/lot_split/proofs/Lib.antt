@@ -6,3 +6,10 @@ mod CostLemmas
 mod WeightLemmas
 mod OneLemmas
 mod SplitLemmas
+mod HeldLemmas
+mod OneOrder
+mod OnLemmas
+mod FormLemmas
+mod MovedLemmas
+mod RatioLemmas
+pub mod AgreeLemmas

@@ -9,9 +9,9 @@ use Rattle.lot_rounding.proofs.NearestLemmas.{one_rate}
 use Rattle.lot_num.specs.Amount.{IsRate, one}
 use Rattle.lot_rounding.specs.Nearest.{IsNearestRate}
 use Rattle.lot_split.specs.Lots.{Becomes, OneBecomesNone, divides, held_of}
-use Rattle.lot_split.specs.Ratio.{AreInRatio, IsLowest, IsProper}
+use Rattle.lot_rounding.specs.Ratio.{AreInRatio, IsLowest, IsProper}
 use Rattle.lot_split.specs.declared.lot.HeldLot.{HeldLot}
-use Rattle.lot_split.specs.declared.ratio.Ratio.{Ratio}
+use Rattle.lot_rounding.specs.declared.ratio.Ratio.{Ratio}
 use Rattle.lot_split.proofs.NumberLemmas.{both_times, cancel, cancel_first, exact_nearest, times_times, times_turned}
 
 -- ---- ratios

@@ -5,12 +5,12 @@ use Rattle.lot_cost.specs.declared.method.Method.{Method}
 use Rattle.lot_command.specs.declared.transaction.Flag.TheVariants.{Complete}
 use Rattle.lot_command.specs.declared.transaction.Transaction.{Transaction}
 use Rattle.lot_split.specs.Lots.{Becomes, held_of}
-use Rattle.lot_split.specs.Ratio.{IsLowest, amounts_of}
+use Rattle.lot_rounding.specs.Ratio.{IsLowest, amounts_of}
 use Rattle.lot_split.specs.Split.{HasFault, IsSplit, Splits, most_postings, postings_of}
 use Rattle.lot_split.specs.declared.fault.SplitFault.{SplitFault}
 use Rattle.lot_split.specs.declared.fault.SplitFault.TheVariants as fault
 use Rattle.lot_split.specs.declared.lot.HeldLot.{HeldLot}
-use Rattle.lot_split.specs.declared.ratio.Ratio.{Ratio}
+use Rattle.lot_rounding.specs.declared.ratio.Ratio.{Ratio}
 use Rattle.lot_split.specs.declared.transaction.Split.{Split}
 use Rattle.lot_split.proofs.OneLemmas.{none_undivided, none_without, one_list, one_ratio}
 
@@ -34,6 +34,7 @@ one_split asked method lots t other first second =
 
 pub no_fault : (asked : Split) (method : Method) (lots : List HeldLot) (t : Transaction) (found : SplitFault)
     → IsSplit asked method lots t → HasFault asked method lots found → found ≡ fault.Memory
+no_fault asked method lots t fault.NotOpened is has = absurd has
 no_fault asked method lots t fault.NothingHeld is has = absurd (is.splits.can.can.some has)
 no_fault asked method lots t fault.TooManyLots is has =
     let few = is.splits.can.can.few in

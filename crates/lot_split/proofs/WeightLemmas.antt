@@ -18,7 +18,7 @@ use Rattle.lot_split.specs.Lots.{Becomes, cost_in, cost_of, crumb_in, currencies
 use Rattle.lot_split.specs.Split.{crumbs, openings, postings_of, takings}
 use Rattle.lot_split.specs.Weights.{taken_in, weigh_in, weight_at, weights_of}
 use Rattle.lot_split.specs.declared.lot.HeldLot.{HeldLot}
-use Rattle.lot_split.specs.declared.ratio.Ratio.{Ratio}
+use Rattle.lot_rounding.specs.declared.ratio.Ratio.{Ratio}
 use Rattle.lot_split.specs.declared.transaction.Split.{Split}
 use Rattle.lot_split.proofs.CurrencyLemmas.{without}
 use Rattle.lot_split.proofs.ListLemmas.{by_bool}

@@ -7,9 +7,9 @@ use Rattle.lot_base.specs.Text.{same_text}
 use Rattle.lot_cost.specs.declared.method.Method.{Method}
 use Rattle.lot_cost.specs.declared.method.Method.TheVariants.{Strict, Fifo, Lifo, Hifo, Unmatched}
 use Rattle.lot_rounding.specs.Nearest.{IsNearestRate}
-use Rattle.lot_split.specs.Ratio.{IsProper}
+use Rattle.lot_rounding.specs.Ratio.{IsProper}
 use Rattle.lot_split.specs.declared.lot.HeldLot.{HeldLot}
-use Rattle.lot_split.specs.declared.ratio.Ratio.{Ratio}
+use Rattle.lot_rounding.specs.declared.ratio.Ratio.{Ratio}
 
 -- ---- What is held.
 

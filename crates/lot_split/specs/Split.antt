@@ -12,11 +12,11 @@ use Rattle.lot_command.specs.declared.transaction.Posting.{Posting}
 use Rattle.lot_command.specs.declared.transaction.Transaction.{Transaction}
 use Rattle.lot_split.specs.Crumbs.{crumb_postings}
 use Rattle.lot_split.specs.Lots.{Becomes, OneBecomesNone, can_be_taken, crumb_in, currencies_of, divides, held_of}
-use Rattle.lot_split.specs.Ratio.{AreInRatio, IsLowest, amounts_of}
+use Rattle.lot_rounding.specs.Ratio.{AreInRatio, IsLowest, amounts_of}
 use Rattle.lot_split.specs.declared.fault.SplitFault.{SplitFault}
 use Rattle.lot_split.specs.declared.fault.SplitFault.TheVariants as fault
 use Rattle.lot_split.specs.declared.lot.HeldLot.{HeldLot}
-use Rattle.lot_split.specs.declared.ratio.Ratio.{Ratio}
+use Rattle.lot_rounding.specs.declared.ratio.Ratio.{Ratio}
 use Rattle.lot_split.specs.declared.transaction.Split.{Split}
 
 -- ---- Limits (docs/RULES.md, Limits).
@@ -117,6 +117,7 @@ IsHoldingFault method lots _ = ⊥
 
 -- when each fault comes, behind those before it; memory may run out at any time
 abbrev pub HasFault : Split → Method → List HeldLot → SplitFault → Type 0
+HasFault asked method lots fault.NotOpened = ⊥
 HasFault asked method lots fault.NothingHeld = IsHoldingFault method lots fault.NothingHeld
 HasFault asked method lots fault.TooManyLots = IsHoldingFault method lots fault.TooManyLots
 HasFault asked method lots fault.BothSigns = IsHoldingFault method lots fault.BothSigns

@@ -4,17 +4,16 @@ ghost use Rattle.std.specs.List.{AllZip};
 ghost use Rattle.lot_num.specs.Amount.{IsUnits, one};
 ghost use Rattle.lot_rounding.specs.Nearest.{IsNearestRate};
 ghost use Rattle.lot_split.specs.Lots.{Becomes, OneBecomesNone, divides};
-ghost use Rattle.lot_split.specs.Ratio.{IsProper, most_in_ratio};
+ghost use Rattle.lot_rounding.specs.Ratio.{IsProper, most_in_ratio};
 ghost use Rattle.lot_split.specs.declared.fault.SplitFault.TheVariants.{Memory, OutOfRange};
 ghost use Rattle.lot_split.specs.declared.lot.HeldLot.{HeldLot};
 
 use crate::fault::SplitFault;
 use crate::lot::{HeldLot, label_of};
-use crate::ratio::Ratio;
 use lot_command::Items;
 use lot_cost::LotKey;
 use lot_num::{Rate, Units};
-use lot_rounding::nearest_rate;
+use lot_rounding::{Ratio, nearest_rate};
 use std::alloc::{AllocError, Global};
 
 /// Returns the place of the first lot whose units can't be divided in a ratio, if there is one.

@@ -4,6 +4,9 @@ use thiserror::Error;
 /// Why lots aren't split. Of several faults, the first in this order is reported.
 #[derive(Clone, Copy, Debug, PartialEq, Eq, Error)]
 pub enum SplitFault {
+    /// The account isn't opened. Splits of given lots have no such fault.
+    #[error("the account isn't opened")]
+    NotOpened,
     /// The account holds no lot of the commodity.
     #[error("no lot is held")]
     NothingHeld,

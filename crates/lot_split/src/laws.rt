@@ -4,14 +4,18 @@ ghost use Rattle.lot_num.specs.Amount.{IsRate};
 ghost use Rattle.lot_cost.specs.declared.method.Method.{Method};
 ghost use Rattle.lot_command.specs.declared.transaction.Transaction.{Transaction};
 ghost use Rattle.lot_split.specs.Lots.{Becomes, cost_of, held_of};
-ghost use Rattle.lot_split.specs.Ratio.{IsProper};
+ghost use Rattle.lot_rounding.specs.Ratio.{IsProper};
+ghost use Rattle.lot_book.specs.Booking.{TieRule};
+ghost use Rattle.lot_book.specs.Facts.{Facts};
+ghost use Rattle.lot_split.specs.Form.{IsSplitByForm};
+ghost use Rattle.lot_split.specs.Held.{HasFaultOn, IsSplitOn};
 ghost use Rattle.lot_split.specs.Split.{HasFault, IsSplit, Splits};
 ghost use Rattle.lot_split.specs.Weights.{taken_in, weigh_in, weights_of};
 ghost use Rattle.lot_split.specs.declared.fault.SplitFault.{SplitFault};
 ghost use Rattle.lot_split.specs.declared.fault.SplitFault.TheVariants.{Memory};
 ghost use Rattle.lot_split.specs.declared.lot.HeldLot.{HeldLot};
-ghost use Rattle.lot_split.specs.declared.ratio.Change.TheVariants.{InRatio, ByUnits};
-ghost use Rattle.lot_split.specs.declared.ratio.Ratio.{Ratio};
+ghost use Rattle.lot_rounding.specs.declared.ratio.Change.TheVariants.{InRatio, ByUnits};
+ghost use Rattle.lot_rounding.specs.declared.ratio.Ratio.{Ratio};
 ghost use Rattle.lot_split.specs.declared.transaction.Split.{Split};
 
 /// A split balances: in each currency its postings weigh, with the lots that they take, exactly zero.
@@ -57,5 +61,22 @@ pub fn there_is_one_split()
         → IsSplit asked method lots t → IsSplit asked method lots other → t ≡ other }
     ensures no_fault { (asked : Split) (method : Method) (lots : List HeldLot) (t : Transaction)
         (fault : SplitFault) → IsSplit asked method lots t → HasFault asked method lots fault
+        → fault ≡ Memory }
+{}
+
+/// A split of lots is one by form, so what was accepted is found again by its text.
+pub fn a_split_is_one_by_form()
+    ensures of_lots { (asked : Split) (method : Method) (lots : List HeldLot) (t : Transaction)
+        → IsSplit asked method lots t → IsSplitByForm asked t }
+    ensures on_a_book { (ties : TieRule) (facts : Facts) (asked : Split) (t : Transaction)
+        → IsSplitOn ties facts asked t → IsSplitByForm asked t }
+{}
+
+/// On what a book says there is at most one split. Where there is one, there is no fault but that memory runs out.
+pub fn there_is_one_split_on()
+    ensures one { (ties : TieRule) (facts : Facts) (asked : Split) (t other : Transaction)
+        → IsSplitOn ties facts asked t → IsSplitOn ties facts asked other → t ≡ other }
+    ensures no_fault { (ties : TieRule) (facts : Facts) (asked : Split) (t : Transaction)
+        (fault : SplitFault) → IsSplitOn ties facts asked t → HasFaultOn ties facts asked fault
         → fault ≡ Memory }
 {}

@@ -10,18 +10,18 @@ use crate::crumbs::push_crumb;
 use crate::divide::{divided, undivided, units_in};
 use crate::fault::SplitFault;
 use crate::lot::{HeldLot, label_of};
-use crate::ratio::{Change, Ratio, lowest_ratio};
 use lot_base::{Account, Commodity, Day};
 use lot_command::{Amount, Cost, CostSpec, Flag, Items, Method, Narration, Posting, Transaction};
 use lot_cost::LotKey;
 use lot_num::Units;
+use lot_rounding::{Change, Ratio, lowest_ratio};
 use std::alloc::{AllocError, Global};
 
 /// The most lots that are split at once (`most_divided` of the definitions).
 const MOST_DIVIDED: usize = 60;
 
 /// The most postings of a transaction (`most_postings` of the definitions).
-const MOST_POSTINGS: usize = 64;
+pub(crate) const MOST_POSTINGS: usize = 64;
 
 /// A split as it is asked for.
 pub struct Split {
@@ -262,7 +262,7 @@ fn push_braced(
 }
 
 /// Returns a specification that fits each lot.
-fn each_lot() -> CostSpec
+pub(crate) fn each_lot() -> CostSpec
     ensures { result ≡ each_lot }
 {
     CostSpec {

@@ -10,5 +10,6 @@ pub mod KeptLemmas
 pub mod RefusalLemmas
 pub mod OutputLemmas
 pub mod RunLemmas
+mod TrialLemmas
 pub mod TurnLemmas
 pub mod WalkLemmas

@@ -21,13 +21,9 @@ use Rattle.lot_book.specs.Openings.{AgreesWithOpenings, FactsWithOpenings, facts
 use Rattle.lot_book.specs.Step.{Accept, DecidesByUnder, DecidesUnder, Outcome, Refuse, Repeat}
 use Rattle.lot_book.specs.declared.refusal.Refusal.{Refusal}
 use Rattle.lot_book.specs.declared.refusal.Refusal.TheVariants.{KeyReused}
-use Rattle.lot_completion.proofs.AgreeLemmas.{proposed_on_book, proposed_on_known}
+use Rattle.lot_completion.proofs.AgreeLemmas.{tried_on_book, tried_on_known}
 use Rattle.lot_completion.specs.Completion.{IsCompletion}
-use Rattle.lot_completion.specs.Proposal.{IsProposal, ProposesNone}
-use Rattle.lot_completion.specs.Turn.{Completes, IsTurnOn, Passes, Proposes, ProposesFor, may_complete, passes}
-use Rattle.lot_completion.specs.declared.completion.Completion.{Completion}
-use Rattle.lot_completion.specs.declared.turn.Proposal.{Proposal}
-use Rattle.lot_completion.specs.declared.turn.Proposal.TheVariants as proposal
+use Rattle.lot_completion.specs.Turn.{Completes, IsTurnOn, Passes, Proposes, ProposesFor, ProposesSplit, SplitsFor, Tries, TriesBy, may_complete, passes}
 use Rattle.lot_laws.proofs.StepLemmas.{step_one}
 use Rattle.lot_laws.proofs.StepOpenings.{step_where_agreed}
 use Rattle.lot_load.proofs.ReadLemmas.{HasRead, reads_as, reads_first, tells, tells_last}
@@ -35,7 +31,10 @@ use Rattle.lot_load.specs.Kept.{IsOf, Keeps, seen, seen_with_openings}
 use Rattle.lot_load.specs.Tells.{Tells}
 use Rattle.lot_load.specs.declared.kept.Kept.{Kept}
 use Rattle.lot_rounding.specs.declared.asked.Asked.{Asked}
+use Rattle.lot_rounding.specs.declared.ratio.Change.{Change}
 use Rattle.lot_rounding.specs.declared.rounding.Rounding.{Rounding}
+use Rattle.lot_split.specs.Held.{IsSplitOn}
+use Rattle.lot_split.specs.declared.transaction.Split.{Split}
 use Rattle.lot_rows.proofs.StateLemmas.{survives_same}
 use Rattle.lot_stored.specs.StandFor.{Stands}
 use Rattle.lot_view.specs.View.{known, known_with_openings}
@@ -48,7 +47,7 @@ use Rattle.lot_store.specs.Damage.{IsOfDamage}
 use Rattle.lot_store.specs.Run.{EndsAt, RepliesTo, StopsWith, count_refused}
 use Rattle.lot_store.specs.Session.{LeavesFirst}
 use Rattle.lot_store.specs.Step.{condition_from}
-use Rattle.lot_store.specs.Turned.{IsLastTurned, IsTried, IsTurned, RunsTurned, TurnsTo, handed, is_judged, judged_of, refusal_of}
+use Rattle.lot_store.specs.Turned.{IsLastTurned, IsTrial, IsTried, IsTurned, RunsTurned, TurnsTo, handed, is_judged, judged_of, refusal_of}
 use Rattle.lot_store.specs.declared.book.Condition.{Condition}
 use Rattle.lot_store.specs.declared.book.Condition.TheVariants.{Ready}
 use Rattle.lot_store.specs.declared.fault.ApplyFault.TheVariants as apply
@@ -83,9 +82,14 @@ IsOneCompletion =
     (ties : TieRule) (facts : Facts) (account : List ℕ) (decimals : ℕ) (t : TransactionOf) (cs ds : List (List ℕ × ℤ)) (one other : TransactionOf)
     → IsCompletion ties facts account decimals t cs one → IsCompletion ties facts account decimals t ds other → (cs ≡ ds) × (one ≡ other)
 
--- both
+-- there is at most one split
+abbrev pub IsOneSplit : Type 0
+IsOneSplit = (ties : TieRule) (facts : Facts) (asked : Split) (t other : TransactionOf)
+    → IsSplitOn ties facts asked t → IsSplitOn ties facts asked other → t ≡ other
+
+-- all three
 abbrev pub AreOne : Type 0
-AreOne = TextsTellApart × IsOneCompletion
+AreOne = TextsTellApart × (IsOneCompletion × IsOneSplit)
 
 some_one : {X : Type 0} (x y : X) → Some x ≡ Some y → x ≡ y
 some_one x y is = cc
@@ -102,8 +106,8 @@ module _ (law : AreOne) (ties : TieRule) (facts : Facts) (rounding : Rounding) (
       by_same true = refl
       by_same false = refl
 
-  one_tried : (a b : Command) → Proposes ties facts rounding asked a → Proposes ties facts rounding asked b → a ≡ b
-  one_tried a b first second =
+  one_completed : (a b : Command) → Proposes ties facts rounding asked a → Proposes ties facts rounding asked b → a ≡ b
+  one_completed a b first second =
       let both : Transaction first.t ≡ Transaction second.t = sym first.is ∙ second.is in
       let same : second.t ≡ first.t = cc in
       first.other_is
@@ -113,7 +117,7 @@ module _ (law : AreOne) (ties : TieRule) (facts : Facts) (rounding : Rounding) (
     where
       by : (t one other : TransactionOf) → ProposesFor ties facts rounding asked.cash t one → ProposesFor ties facts rounding asked.cash t other → one ≡ other
       by t one other (inl (cs, c)) (inl (ds, d)) =
-          (law.1 ties facts rounding.account rounding.decimals t cs ds one other c.completion d.completion).1
+          (law.1.0 ties facts rounding.account rounding.decimals t cs ds one other c.completion d.completion).1
       by t one other (inr s) (inr r) =
           let both : Transaction one ≡ Transaction other =
           law.0 (Transaction one) (Transaction other) s.sayable r.sayable
@@ -122,26 +126,52 @@ module _ (law : AreOne) (ties : TieRule) (facts : Facts) (rounding : Rounding) (
       by t one other (inl (cs, c)) (inr r) = absurd (no_completion t (canonical (Transaction other)) r.says cs one c)
       by t one other (inr s) (inl (ds, d)) = absurd (no_completion t (canonical (Transaction one)) s.says ds other d)
 
+  one_split : (change : Change) (a b : Command) → ProposesSplit ties facts rounding change asked.command a
+      → ProposesSplit ties facts rounding change asked.command b → a ≡ b
+  one_split change a b first second =
+      let same : second.split ≡ first.split = some_one second.split first.split (sym second.asks ∙ first.asks) in
+      first.other_is
+      ∙ ap Transaction (by first.split first.made second.made first.splits
+      (subst (λ (x : Split). SplitsFor ties facts x second.made) same second.splits))
+      ∙ sym second.other_is
+    where
+      by : (split : Split) (one other : TransactionOf) → SplitsFor ties facts split one → SplitsFor ties facts split other → one ≡ other
+      by split one other (inl (new, is)) (inl (also, too)) = law.1.1 ties facts split one other is too
+      by split one other (inr s) (inr r) =
+          let both : Transaction one ≡ Transaction other =
+          law.0 (Transaction one) (Transaction other) s.sayable r.sayable
+          (some_one (canonical (Transaction one)) (canonical (Transaction other)) (sym s.says ∙ r.says)) in
+          cc
+      by split one other (inl (new, is)) (inr r) = let both : None ≡ Some (canonical (Transaction other)) = sym new ∙ r.says in absurd cc
+      by split one other (inr s) (inl (new, is)) = let both : None ≡ Some (canonical (Transaction one)) = sym new ∙ s.says in absurd cc
+
+  one_tried : (a b : Command) → Tries ties facts rounding asked a → Tries ties facts rounding asked b → a ≡ b
+  one_tried a b = by asked.split
+    where
+      by : (split : Option Change) → TriesBy split ties facts rounding asked a → TriesBy split ties facts rounding asked b → a ≡ b
+      by None first second = one_completed a b first second
+      by (Some change) first second = one_split change a b first second
+
 -- ---- what is judged on a book
 
 module _ (law : AreOne) (known : FactsWithOpenings) (book : List Entry) (key : Key) (rounding : Rounding) (asked : Asked)
     (agrees : AgreesWithOpenings known (facts_with_openings book key) asked.command) where
   -- nothing is tried
-  pub stays : ProposesNone (ties_on known) known.facts rounding asked → IsTurnOn book key (Some rounding) asked asked.command
-  stays none = inr (refl, λ other proposes passed. none other (proposed_on_known known book key rounding asked other agrees proposes))
+  pub stays : IsTrial (ties_on known) known.facts rounding asked None → IsTurnOn book key (Some rounding) asked asked.command
+  stays none = inr (refl, λ other tries passed. none other (tried_on_known known book key rounding asked other agrees tries))
 
   -- what was tried is judged, or what was handed in
-  pub tries : (other : Command) (found : Option Command) → Proposes (ties_on known) known.facts rounding asked other → IsTried book key other found
+  pub tries : (other : Command) (found : Option Command) → Tries (ties_on known) known.facts rounding asked other → IsTried book key other found
       → IsTurnOn book key (Some rounding) asked (unwrap_or found asked.command)
   tries other None proposes refused = inr (
     refl,
     λ more again passed.
         refused (subst (Passes (ties_in Second book) (facts_of book key))
-        (one_tried law (ties_on known) known.facts rounding asked more other (proposed_on_known known book key rounding asked more agrees again) proposes) passed),
+        (one_tried law (ties_on known) known.facts rounding asked more other (tried_on_known known book key rounding asked more agrees again) proposes) passed),
   )
   tries other (Some judged) proposes (is, passed) = inl (
-    subst (Proposes (ties_in Second book) (facts_of book key) rounding asked) (sym is)
-        (proposed_on_book known book key rounding asked other agrees proposes),
+    subst (Tries (ties_in Second book) (facts_of book key) rounding asked) (sym is)
+        (tried_on_book known book key rounding asked other agrees proposes),
     subst (Passes (ties_in Second book) (facts_of book key)) (sym is) passed,
   )
 
@@ -197,29 +227,13 @@ abbrev pub SaysLooked : Option Kept → Key → Command → Kept → List Entry 
 SaysLooked kept key command looked entries =
     IsOf kept entries → Keeps looked entries × AgreesWithOpenings (seen_with_openings looked) (facts_with_openings entries key) command
 
--- what is tried is its completion, or the one that stands
-pub proposes_completion : (ties : TieRule) (facts : Facts) (rounding : Rounding) (asked : Asked) (completion : Completion)
-    → IsProposal ties facts rounding asked (proposal.Completion completion) → Proposes ties facts rounding asked (Transaction completion.transaction)
-proposes_completion ties facts rounding asked completion (t, is, completes) = record {
-  t = t;
-  is = is;
-  completed = completion.transaction;
-  proposes = inl (completion.crumbs, completes);
-  other_is = refl;
-}
-
-pub proposes_standing : (ties : TieRule) (facts : Facts) (rounding : Rounding) (asked : Asked) (stands : TransactionOf)
-    → IsProposal ties facts rounding asked (proposal.Standing stands) → Proposes ties facts rounding asked (Transaction stands)
-proposes_standing ties facts rounding asked stands (t, is, by_form) =
-    record { t = t; is = is; completed = stands; proposes = inr by_form; other_is = refl }
-
 -- what is tried on the view of what was looked at
-pub proposal_on : (looked : Kept) (view : View) → view ≡ looked.view → (rounding : Rounding) (asked : Asked) (found one : Proposal) → found ≡ one
-    → IsProposal (ties_on (known_with_openings view)) (known view) rounding asked found
-    → IsProposal (ties_on (seen_with_openings looked)) (seen looked) rounding asked one
-proposal_on looked view same rounding asked found one is proposes =
-    subst (λ (v : View). IsProposal (ties_on (known_with_openings v)) (known v) rounding asked one) same
-    (subst (IsProposal (ties_on (known_with_openings view)) (known view) rounding asked) is proposes)
+pub trial_on : (looked : Kept) (view : View) → view ≡ looked.view → (rounding : Rounding) (asked : Asked) (found one : Option Command) → found ≡ one
+    → IsTrial (ties_on (known_with_openings view)) (known view) rounding asked found
+    → IsTrial (ties_on (seen_with_openings looked)) (seen looked) rounding asked one
+trial_on looked view same rounding asked found one is tries =
+    subst (λ (v : View). IsTrial (ties_on (known_with_openings v)) (known v) rounding asked one) same
+    (subst (IsTrial (ties_on (known_with_openings view)) (known view) rounding asked) is tries)
 
 module _ (law : AreOne) (kept : Option Kept) (rounding : Rounding) (key : Key) (asked : Asked) (looked : Kept) (old mid : State)
     (answers : Tells (SaysLooked kept key asked.command) old mid (Ok looked)) where
@@ -228,7 +242,7 @@ module _ (law : AreOne) (kept : Option Kept) (rounding : Rounding) (key : Key) (
       reads_first _ _ _ (SaysLooked kept key asked.command looked) old mid looked answers (λ tables entries book stand good is. is entries book stand)
 
   -- what was handed in is judged
-  pub says_stays : (turn : Turn) → turn.other ≡ None → ProposesNone (ties_on (seen_with_openings looked)) (seen looked) rounding asked
+  pub says_stays : (turn : Turn) → turn.other ≡ None → IsTrial (ties_on (seen_with_openings looked)) (seen looked) rounding asked None
       → Tells (SaysTurn kept rounding key asked) old mid (Ok (looked, turn))
   says_stays turn is none =
       tells (SaysTurn kept rounding key asked) old mid (looked, turn)
@@ -245,7 +259,7 @@ module _ (law : AreOne) (kept : Option Kept) (rounding : Rounding) (key : Key) (
 
   -- what is tried in its place is judged, or it
   pub says_tried : (other : Command) (new : State) (result : Result (Kept × Turn) table.Fault)
-      → Proposes (ties_on (seen_with_openings looked)) (seen looked) rounding asked other → Tells (SaysTried looked key other) mid new result
+      → Tries (ties_on (seen_with_openings looked)) (seen looked) rounding asked other → Tells (SaysTried looked key other) mid new result
       → Tells (SaysTurn kept rounding key asked) old new result
   says_tried other new result proposes told =
       tells_last (SaysLooked kept key asked.command looked) (SaysTried looked key other) (SaysTurn kept rounding key asked) old mid new result looks told

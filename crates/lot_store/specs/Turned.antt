@@ -3,15 +3,21 @@ use Rattle.std.specs.Prelude.{◌≡◌, ◌≢◌, ◌⊎◌, ℕ, Bool, true, 
 use Rattle.std.specs.Option.{unwrap_or}
 use Rattle.sqlite.specs.State.{HasCleanDisk, KeepsCommit, State, Survives}
 use Rattle.lot_command.specs.declared.command.Command.{Command}
+use Rattle.lot_command.specs.declared.command.Command.TheVariants.{Transaction}
 use Rattle.lot_command.specs.declared.key.Key.{Key}
 use Rattle.lot_book.specs.Edition.{Second, ties_in}
-use Rattle.lot_book.specs.Facts.{Entry, facts_of}
+use Rattle.lot_book.specs.Booking.{TieRule}
+use Rattle.lot_book.specs.Facts.{Entry, Facts, facts_of}
 use Rattle.lot_book.specs.Judged.{JudgesOn}
 use Rattle.lot_book.specs.Step.{Accept, Outcome, Refuse, Repeat}
 use Rattle.lot_book.specs.declared.refusal.Refusal.{Refusal}
 use Rattle.lot_book.specs.declared.verdict.Verdict.{Verdict}
 use Rattle.lot_book.specs.declared.verdict.Verdict.TheVariants as verdict
-use Rattle.lot_completion.specs.Turn.{IsTurnOn, Passes}
+use Rattle.lot_completion.specs.Turn.{IsTurnOn, Passes, Tries}
+use Rattle.lot_completion.specs.declared.split.SplitProposal.{SplitProposal}
+use Rattle.lot_completion.specs.declared.split.SplitProposal.TheVariants as proposed
+use Rattle.lot_completion.specs.declared.turn.Proposal.{Proposal}
+use Rattle.lot_completion.specs.declared.turn.Proposal.TheVariants as proposal
 use Rattle.lot_completion.specs.declared.watch.Note.{Note}
 use Rattle.lot_completion.specs.declared.watch.Note.TheVariants as note
 use Rattle.lot_rounding.specs.declared.asked.Asked.{Asked}
@@ -49,13 +55,33 @@ refusal_of (Accept legs) = None
 refusal_of Repeat = None
 refusal_of (Refuse refusal) = Some refusal
 
--- what there is to tell of the crumbs of a command that came to a verdict: what an account took of one that was accepted, and why
--- a completion isn't judged of one that is refused
+-- what there is to tell of a command that came to a verdict: what an account took of one that was accepted, and why a completion or
+-- a split isn't judged of one that is refused
 abbrev pub FitsVerdict : Verdict → Note → Type 0
 FitsVerdict judged (note.Taken crumbs) = judged ≡ verdict.Accepted
 FitsVerdict judged (note.Beyond currency crumb) = (refusal : Refusal) × (judged ≡ verdict.Refused refusal)
 FitsVerdict judged (note.Refused why) = (refusal : Refusal) × (judged ≡ verdict.Refused refusal)
+FitsVerdict judged (note.Unsplit fault) = (refusal : Refusal) × (judged ≡ verdict.Refused refusal)
 FitsVerdict judged (note.Untaken completion) = ⊥
+
+-- the completion that is tried, if one is
+abbrev pub completed_by : Proposal → Option Command
+completed_by proposal.Nothing = None
+completed_by (proposal.Beyond currency crumb) = None
+completed_by (proposal.Completion completion) = Some (Transaction completion.transaction)
+completed_by (proposal.Standing stands) = Some (Transaction stands)
+
+-- the split that is tried, if one is
+abbrev pub split_by : SplitProposal → Option Command
+split_by proposed.Nothing = None
+split_by (proposed.Impossible fault) = None
+split_by (proposed.Split made) = Some (Transaction made.transaction)
+split_by (proposed.Standing stands) = Some (Transaction stands)
+
+-- what is tried in the place of a command, on what is known, if anything is
+abbrev pub IsTrial : TieRule → Facts → Rounding → Asked → Option Command → Type 0
+IsTrial ties facts rounding asked None = (other : Command) → Tries ties facts rounding asked other → ⊥
+IsTrial ties facts rounding asked (Some other) = Tries ties facts rounding asked other
 
 -- Another command is tried in the place of one on a book: it is judged there where it is accepted or repeats an entry.
 abbrev pub IsTried : List Entry → Key → Command → Option Command → Type 0

@@ -4,7 +4,8 @@
 //! - `creation`: making a book; `adoption`: taking up the one that is there.
 //! - `commit`: rows written in one commit.
 //! - `run`: commands applied one after another, with a reply to each.
-//! - `turn`: which command is judged in the place of one that was handed in.
+//! - `trial`: what is tried in the place of a command that was handed in.
+//! - `turn`: which command is judged in its place.
 //! - `extent`: how far a book goes.
 //! - `walk`: walks over the rows of a book, and why one gives none.
 //! - `fault`: why a call fails.
@@ -17,6 +18,7 @@ mod creation;
 mod extent;
 mod fault;
 mod run;
+mod trial;
 mod turn;
 mod walk;
 

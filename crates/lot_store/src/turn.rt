@@ -1,4 +1,4 @@
-//! Turns: which command is judged in the place of one that was handed in, where an account takes the crumbs.
+//! Turns: which command is judged in the place of one that was handed in, where an account takes the crumbs, or lots are split.
 ghost use Rattle.std.specs.Prelude.{◌≡◌, false, IfOk, IfSome, None, Some, option_copied};
 ghost use Rattle.lot_book.specs.Openings.{ties_on};
 ghost use Rattle.lot_book.specs.Step.{DecidesUnder, Outcome as OutcomeOf};
@@ -10,13 +10,15 @@ ghost use Rattle.sqlite.specs.Held.{state};
 ghost use Rattle.sqlite.specs.State.{HasCleanDisk};
 
 use crate::fault::StoreFault;
+use crate::trial::{Trial, trial_of};
 use lot_command::{Command, Key};
 use lot_completion::laws::there_is_one_completion;
-use lot_completion::{Completion, Note, Proposal, Watch, propose, untaken};
+use lot_completion::{Note, Watch, untaken};
 use lot_ledger::{Edition, Outcome, Refusal, Stop, Verdict, View, decide};
 use lot_load::{Kept, look_on};
 use lot_print::laws::canonical_texts_tell_commands_apart;
 use lot_rounding::{Asked, Rounding};
+use lot_split::laws::there_is_one_split_on;
 use lot_table::{Fault, Queryable};
 use sqlite::{Alter, Connection};
 use std::alloc::{AllocError, Global};
@@ -26,7 +28,7 @@ use std::alloc::{AllocError, Global};
 pub struct Turn {
     /// The command that is judged in its place, where there is one.
     pub other: Option<Command>,
-    /// What there is to tell of its crumbs, once it comes to a verdict.
+    /// What there is to tell of its crumbs or its split, once it comes to a verdict.
     pub note: Option<Note>,
 }
 
@@ -48,8 +50,8 @@ impl Turn {
         }
     }
 
-    /// Returns what there is to tell of the crumbs of a command that came to that verdict: what the account took of one that was
-    /// accepted, or why the completion of one that was refused isn't judged in its place.
+    /// Returns what there is to tell of a command that came to that verdict: what the account took of one that was accepted, or why
+    /// the completion or the split of one that was refused isn't judged in its place.
     pub fn told(self, verdict: &Verdict) -> Option<Note>
         ensures told { IfSome result (λ note. (self.note ≡ Some note)
             × FitsVerdict verdict.now note) }
@@ -60,6 +62,7 @@ impl Turn {
                 Some(Note::Beyond { currency, crumb })
             }
             (Note::Refused(refusal), Verdict::Refused(_)) => Some(Note::Refused(refusal)),
+            (Note::Unsplit(fault), Verdict::Refused(_)) => Some(Note::Unsplit(fault)),
             _ => None,
         }
     }
@@ -110,27 +113,12 @@ pub fn turn_with<D: Queryable>(
 {
     canonical_texts_tell_commands_apart();
     there_is_one_completion();
+    there_is_one_split_on();
     let looked = look_on(alloc, conn, kept, key, &asked.command)?;
-    match propose(alloc, looked.view(), rounding, asked)? {
-        Proposal::Nothing => Ok((looked, Turn::as_handed_in(None))),
-        Proposal::Beyond { currency, crumb } => {
-            let note = Note::Beyond { currency, crumb };
-            Ok((looked, Turn::as_handed_in(Some(note))))
-        }
-        Proposal::Completion(
-            Completion {
-                transaction,
-                crumbs,
-            },
-        ) => {
-            let other = Command::Transaction(transaction);
-            let note = Some(Note::Taken(crumbs));
-            try_with(alloc, conn, looked, key, other, note)
-        }
-        Proposal::Standing(stands) => {
-            let other = Command::Transaction(stands);
-            try_with(alloc, conn, looked, key, other, None)
-        }
+    let Trial { other, note } = trial_of(alloc, looked.view(), rounding, asked)?;
+    match other {
+        Some(other) => try_with(alloc, conn, looked, key, other, note),
+        None => Ok((looked, Turn::as_handed_in(note))),
     }
 }
 

@@ -2,7 +2,7 @@
 
 use super::{Code, Examples};
 
-pub(super) static CODES: [Code; 8] = [
+pub(super) static CODES: [Code; 7] = [
     Code {
         code: "C1",
         name: "BadHeader",
@@ -10,7 +10,7 @@ pub(super) static CODES: [Code; 8] = [
         rule: "The first record of a broker file is exactly \
             ref,date,action,symbol,units,price,currency,fee, with ,lot behind it where the file \
             has that column. In an export that is imported by a profile, a column that the profile \
-            names stands in the header exactly once.",
+            names stands in the header exactly once; its lines are counted without blank ones.",
         examples: Examples::Rows {
             refused: r#"
 Ref,Date,Action,Symbol,Units,Price,Currency,Fee
@@ -21,17 +21,18 @@ ref,date,action,symbol,units,price,currency,fee
 D-1,2024-01-15,BUY,HOOL,10,102.50,USD,
 "#,
         },
-        help: "Name and order the columns of the broker's file so; fields are separated by commas.",
+        help: "Name and order the columns of the broker's file so; fields are separated by commas. Or \
+            import by a profile, which names the columns as they are.",
         page: "docs/FORMATS.md, Broker files",
     },
     Code {
         code: "C2",
         name: "BadRow",
         brief: "a field is outside the rule of its column",
-        rule: "A field of a row is outside the rule of its column, which the fault names. Length \
-            says that the row has more or fewer fields than the header. Of an export that is imported by a \
-            profile the cause says which rule of the profile the row doesn't fit. Then no row of the \
-            file is posted.",
+        rule: "A field of a row is outside the rule of its column, which the fault names. Of an export \
+            that is imported by a profile the cause says which rule of the profile the row doesn't \
+            fit. Then no row of the file is posted. lotbook explain CAUSE says what a cause means, as \
+            lotbook explain NoKind.",
         examples: Examples::Rows {
             refused: r#"
 ref,date,action,symbol,units,price,currency,fee
@@ -42,9 +43,10 @@ ref,date,action,symbol,units,price,currency,fee
 D-1,2024-01-15,BUY,HOOL,10,102.50,USD,
 "#,
         },
-        help: "Actions are BUY and SELL, days have the year first, units aren't negative, and a \
-            number with a comma stands in quotes. Take rows of other kinds out, and post what they \
-            say.",
+        help: "In a broker file actions are BUY and SELL, days have the year first, units aren't \
+            negative, and a number with a comma stands in quotes; import rows of other kinds by a \
+            profile. By a profile, say in it what the row is, pass it over as skip, or make its kind \
+            by-hand.",
         page: "docs/FORMATS.md, Broker files",
     },
     Code {
@@ -84,7 +86,7 @@ D-1,2024-01-15,BUY,HOOL,0.3170215,78.9,USD,
         name: "NotText",
         brief: "a line of the export isn't UTF-8",
         rule: "An export that is imported by a profile is UTF-8, unless the profile says that its \
-            encoding is Latin-1.",
+            encoding is Latin-1. Lines are counted without blank ones.",
         examples: Examples::Absent,
         help: "Write encoding = \"latin-1\" into [file] of the profile, or export the file as UTF-8.",
         page: "docs/FORMATS.md, Profiles",
@@ -108,17 +110,8 @@ D-1,2024-01-15,BUY,HOOL,0.3170215,78.9,USD,
             its symbol, price and currency and opposite units and amount, which no other row \
             takes back.",
         examples: Examples::Absent,
-        help: "Export from a day before the purchase on, or leave out the row by --except.",
-        page: "docs/FORMATS.md, Profiles",
-    },
-    Code {
-        code: "C8",
-        name: "Split",
-        brief: "the row is a split, which isn't posted by an import",
-        rule: "A row of the kind split isn't posted yet, since it is worked out on what is held.",
-        examples: Examples::Absent,
-        help: "Make its kind by-hand in the profile, import the rows before it, and post the split \
-            as text under its key: the lots taken, and opened again with their new units.",
+        help: "Export from a day before the purchase on, make its kind by-hand, or leave out the row \
+            by --except.",
         page: "docs/FORMATS.md, Profiles",
     },
 ];

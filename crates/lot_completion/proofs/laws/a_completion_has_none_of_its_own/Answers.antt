@@ -10,5 +10,5 @@ returns-clause-alone c ties facts account other decimals t crumbs zeros complete
     own_alone ties facts account decimals t crumbs completed is other zeros again found
 
 pub returns-clause-stays : goal.returns-clause-stays
-returns-clause-stays c ties facts account rounding asked t crumbs completed turned is command new turn =
-    own_turn ties facts account rounding asked t crumbs completed is command new turned turn
+returns-clause-stays c ties facts account rounding asked t crumbs completed turned is command plain new turn =
+    own_turn ties facts account rounding asked t crumbs completed is command plain new turned turn

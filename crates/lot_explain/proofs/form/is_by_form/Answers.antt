@@ -1,5 +1,5 @@
 -- By what is tried on a view that has the text alone.
-use Rattle.std.proofs.Common.{◌≡◌, ◌∙◌, Bool, Some, ap, subst, sym}
+use Rattle.std.proofs.Common.{◌≡◌, ◌∙◌, Bool, None, Some, ap, subst, sym}
 use Rattle.std.specs.Prelude.{IsTrue, ◌↔◌}
 use Rattle.lot_command.specs.declared.command.Command.TheVariants.{Transaction}
 use Rattle.lot_book.specs.Facts.{Facts}
@@ -18,7 +18,7 @@ returns c =
     let view = c.put_text.new.self in
     let facts = known view in
     let says : facts.text ≡ Some text = ap (λ (f : Facts). f.text) c.put_text.ensures.facts ∙ ap Some c.in_ok-from_str.ensures.ok in
-    let asked : Asked = record { command = Transaction c.in_ok-copy.field-0; cash = cash } in
+    let asked : Asked = record { command = Transaction c.in_ok-copy.field-0; cash = cash; split = None } in
     let is : asked.command ≡ Transaction t = ap Transaction c.in_ok-copy.ensures in
     subst (λ (b : Bool). IsTrue b ↔ IsByFormIn text cash t) (sym c.is_standing.ensures)
     (by_proposal (ties_on (known_with_openings view)) facts c.in_ok-rounding.rounding asked text t says is c.in_ok-proposal.proposal

@@ -1,5 +1,5 @@
 -- A row that is posted by hand is shown.
-use Rattle.std.proofs.Common.{◌≡◌, ℕ, List, ◌++◌, ap, ◌∙◌}
+use Rattle.std.proofs.Common.{ℕ, List, ◌++◌, ap, ◌∙◌}
 use Rattle.std.specs.String.{string_bytes}
 use Rattle.lot_export.proofs.show.push_hand.Goals as goal
 

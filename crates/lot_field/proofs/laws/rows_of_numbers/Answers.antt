@@ -20,6 +20,15 @@ returns-clause-parentheses c = record {
   units = refl;
 }
 
+pub returns-clause-longest : goal.returns-clause-longest
+returns-clause-longest c = record {
+  mantissa = 500000000;
+  is_magnitude = refl;
+  reads = record { nearest = record { near = lit≤ tt; even = λ half. refl }; exactly = refl };
+  in_range = lit< tt;
+  units = refl;
+}
+
 pub returns-clause-rounded : goal.returns-clause-rounded
 returns-clause-rounded c = record {
   mantissa = 2;

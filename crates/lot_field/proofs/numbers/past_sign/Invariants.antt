@@ -1,7 +1,10 @@
-use Rattle.std.proofs.Common.{◌≡◌, drop}
-use Rattle.lot_field.specs.Numbers.{past_sign}
+use Rattle.std.proofs.Common.{◌≡◌, ◌≤◌, ◌==◌, drop, length, max}
+use Rattle.std.specs.List.{starts_with}
+use Rattle.lot_field.specs.Numbers.{longest_at}
 use Rattle.lot_field.proofs.numbers.past_sign.Given as goal
 
--- none of the signs so far
+-- the longest of those so far, or of those that are left
 abbrev pub invariant-loop-sign : goal.invariant-loop-sign
-invariant-loop-sign l = past_sign (drop l.sign-index l.signs) l.text ≡ past_sign l.signs l.text
+invariant-loop-sign l =
+    (max l.longest (longest_at (starts_with ◌==◌) (drop l.sign-index l.signs) l.text) ≡ longest_at (starts_with ◌==◌) l.signs l.text)
+    × (l.longest ≤ length l.text)

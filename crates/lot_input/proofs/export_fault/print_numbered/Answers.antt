@@ -1,6 +1,6 @@
 -- The texts of the line, one behind another.
 use Rattle.std.proofs.Common.{◌≡◌, ◌∙◌, List, ℕ, [], ◌∷◌, ◌++◌, ap, append_assoc, subst, sym}
-use Rattle.std.specs.Prelude.{codes, decimal}
+use Rattle.std.specs.Prelude.{codes}
 use Rattle.lot_report.specs.Written.{WritesLine}
 use Rattle.lot_input.specs.ExportLine.{numbered}
 use Rattle.lot_input.proofs.export_fault.print_numbered.Goals as goal

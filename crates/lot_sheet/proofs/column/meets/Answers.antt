@@ -1,5 +1,4 @@
-use Rattle.std.proofs.Common.{IsTrue, List, ℕ, Bor, option_map}
-use Rattle.csv.specs.Records.{fields_of}
+use Rattle.std.proofs.Common.{IsTrue}
 use Rattle.lot_sheet.proofs.ColumnLemmas.{meets_same}
 use Rattle.lot_sheet.proofs.column.meets.Goals as goal
 

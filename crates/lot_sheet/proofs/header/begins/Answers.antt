@@ -1,4 +1,4 @@
-use Rattle.std.proofs.Common.{Some, None, sym, ◌∙◌, ◌≤◌, length, arith}
+use Rattle.std.proofs.Common.{Some, None, sym, ◌∙◌, arith}
 use Rattle.std.proofs.lemmas.List.{length-map}
 use Rattle.lot_field.specs.Field.{cut}
 use Rattle.lot_sheet.specs.Column.{names_in}

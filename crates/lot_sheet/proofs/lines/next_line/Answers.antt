@@ -1,7 +1,5 @@
-use Rattle.std.proofs.Common.{◌≡◌, subst, sym}
+use Rattle.std.proofs.Common.{subst, sym}
 use Rattle.lot_sheet.specs.Reading.{HasNoText, records_left}
-use Rattle.lot_sheet.specs.declared.lines.ReadFault.{ReadFault}
-use Rattle.lot_sheet.specs.declared.lines.ReadFault.TheVariants.{NotText}
 use Rattle.lot_sheet.proofs.LineLemmas.{handed, no_text_line}
 use Rattle.lot_sheet.proofs.lines.next_line.Goals as goal
 

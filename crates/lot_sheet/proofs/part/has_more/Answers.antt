@@ -1,5 +1,4 @@
-use Rattle.std.proofs.Common.{List, [], ℕ, Bool, not, length, sym, ap, ◌∙◌, arith}
-use Rattle.std.specs.List.{list_any}
+use Rattle.std.proofs.Common.{List, [], ℕ, not, sym, ap, ◌∙◌, arith}
 use Rattle.csv.specs.Records.{fields_of}
 use Rattle.lot_sheet.specs.Column.{is_blank_field}
 use Rattle.lot_sheet.proofs.ListLemmas.{any_here, any_later, any_over}

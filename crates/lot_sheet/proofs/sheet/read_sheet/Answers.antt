@@ -1,8 +1,6 @@
-use Rattle.std.proofs.Common.{refl, ap, ◌∙◌}
+use Rattle.std.proofs.Common.{refl}
 use Rattle.std.proofs.lemmas.Result.{IfErr-weaker, IfOk-weaker}
-use Rattle.std.specs.Char.{encode_utf8}
-use Rattle.std.specs.List.{flat_map}
-use Rattle.lot_profile.specs.declared.file.Encoding.TheVariants.{Utf8, Latin1}
+use Rattle.lot_profile.specs.declared.file.Encoding.TheVariants.{Utf8}
 use Rattle.lot_sheet.proofs.SheetLemmas.{fault_as, in_encoding, rows_as}
 use Rattle.lot_sheet.proofs.sheet.read_sheet.Goals as goal
 

@@ -1,4 +1,4 @@
-use Rattle.std.proofs.Common.{List, ℕ, filter, ap, refl}
+use Rattle.std.proofs.Common.{filter, ap, refl}
 use Rattle.std.proofs.lemmas.Result.{IfErr-weaker, IfOk-weaker}
 use Rattle.lot_sheet.specs.Sheet.{is_line}
 use Rattle.lot_sheet.proofs.SheetLemmas.{fault_as, rows_as}

@@ -1,8 +1,8 @@
 -- Each lot's units are as many times the ratio, and so is their sum.
-use Rattle.std.proofs.Common.{◌+ℤ◌, ℤ, ◌∙◌, sym, subst}
+use Rattle.std.proofs.Common.{◌+ℤ◌, ◌∙◌, sym, subst}
 use Rattle.lot_split.specs.Lots.{held_of}
-use Rattle.lot_split.specs.Ratio.{IsLowest, amounts_of}
-use Rattle.lot_split.specs.declared.ratio.Change.{Change}
+use Rattle.lot_rounding.specs.Ratio.{IsLowest, amounts_of}
+use Rattle.lot_rounding.specs.declared.ratio.Change.{Change}
 use Rattle.lot_split.proofs.NumberLemmas.{cancel}
 use Rattle.lot_split.proofs.OneLemmas.{held_split}
 use Rattle.lot_split.proofs.laws.units_come_to_the_ratio.Goals as goal

@@ -1,4 +1,4 @@
-use Rattle.std.proofs.Common.{◌≡◌, ◌+◌, ◌++◌, ◌∷◌, [], List, ℕ, Option, Some, None, Ok, length, sym, subst, ap, ◌∙◌, arith}
+use Rattle.std.proofs.Common.{◌≡◌, ◌+◌, ◌++◌, ◌∷◌, [], List, Option, Some, None, Ok, length, sym, subst, ◌∙◌, arith}
 use Rattle.csv.specs.Records.{fields_of}
 use Rattle.lot_sheet.specs.Header.{Standing}
 use Rattle.lot_sheet.specs.Part.{Outside, RowOf}
