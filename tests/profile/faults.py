@@ -237,6 +237,8 @@ CASES = [
     ("a tax in another currency", [('is = "dividend"\n', 'is = "dividend"\ncolumns = { tax = "Fee", tax-currency = { is = "GBP" } }\n')], [DIVIDEND.replace("USD;;", "USD;1.50;")], ["Cash 8.5 USD", "Dividends -8.5 USD", "Tax 1.5 GBP", "Dividends -1.5 GBP"]),
     ("a dividend that is taken back", [('is = "dividend"\n', 'is = "dividend"\ncolumns = { tax = "Fee" }\n')], [DIVIDEND.replace("8.50", "-8.50").replace("USD;;", "USD;-1.50;")], ["Cash -8.5 USD", "Tax -1.5 USD", "Dividends 10 USD"]),
     ("a reward", [REWARD], ["2024-03-07;Gift;HOOL;0.5;;52;USD;;D5"], ["Broker 0.5 HOOL {{52 USD}}", "Rewards -52 USD"]),
+    ("a reward's price of ten decimals", [REWARD], ["2024-03-07;Gift;HOOL;3;0.5000000001;;USD;;D5"], ["Broker 3 HOOL {{1.5 USD}}", "1 rounded"]),
+    ("a reward's price beside its amount isn't used", [REWARD], ["2024-03-07;Gift;HOOL;3;0.5000000001;1.5;USD;;D5"], ["{{1.5 USD}}", "0 rounded"]),
     ("a reward by its price", [REWARD], ["2024-03-07;Gift;HOOL;0.00000003;0.5;;USD;;D5"], ["Broker 0.00000003 HOOL {{0.00000002 USD}}", "Rewards -0.00000002 USD"]),
     ("a reward that counts as nothing", [REWARD, kind_more('[basis]\nrewards = "zero"')], ["2024-03-07;Gift;HOOL;0.5;;52;USD;;D5"], ["Broker 0.5 HOOL {{0 USD}}\n;"]),
     ("a reward below zero", [REWARD], ["2024-03-07;Gift;HOOL;0.5;;-52;USD;;D5"], "row 1 has the signs of no reward"),

@@ -101,6 +101,7 @@ def year(program, name, folder):
         if status:
             compare.check(f"{name}: {file}", f"status {status}: {(out + said)[:300]}")
             return
+        compare.check(f"{name}: {file}: numbers that were rounded", "" if rounded_said(said) == reads[file].rounded else f"{rounded_said(said)}, wanted {reads[file].rounded}")
         wanted = {deal.row.number: "repeat" if deal.key in known else "accepted" for deal in reads[file].deals}
         compare.check(f"{name}: {file}: the rows", "" if rows_said(out) == wanted else f"{len(rows_said(out))} rows, wanted {len(wanted)}: {out[:100]}")
         known.update(deal.key for deal in reads[file].deals)
@@ -111,6 +112,12 @@ def year(program, name, folder):
         status, out, _ = program.take(profile_path, compare.load(f"{folder}/{file}"))
         compare.check(f"{name}: {file} again", "" if not status and set(rows_said(out).values()) <= {"repeat"} else out[:200])
     compare.check(f"{name}: nothing changed", "" if program.digest() == before and before.startswith("book verified") else before)
+
+
+def rounded_said(said):
+    """How many numbers were rounded, as standard error says it."""
+    found = re.search(r"^lotbook: ([0-9]+) numbers? (?:was|were) rounded to eight decimals$", said, re.M)
+    return int(found[1]) if found else 0
 
 
 def as_told(key):
@@ -125,18 +132,19 @@ def case(program, name, changes, lines):
     path = f"{program.folder}.toml"
     with open(path, "w", encoding="utf-8") as file:
         file.write(text)
-    wanted, deals, profile = None, [], None
+    wanted, read, profile = None, None, None
     try:
         profile = reader.read_profile(text.encode())
-        deals = reader.read_export(profile, data).deals
+        read = reader.read_export(profile, data)
     except (reader.ProfileFault, reader.Fault) as fault:
         wanted = fault
     base = profile or reader.read_profile(faults.PROFILE.encode())
+    deals = read.deals if read else []
     program.start(base, deals)
     status, out, said = program.take(path, data)
     told = f"status {status}: {(out + said)[:300]}"
     if wanted is None:
-        good = status == 0 and sorted(program.keys()) == sorted(deal.key for deal in deals)
+        good = status == 0 and sorted(program.keys()) == sorted(deal.key for deal in deals) and rounded_said(said) == read.rounded
     elif isinstance(wanted, reader.ProfileFault):
         good = status == 2 and (wanted.key == "-" or as_told(wanted.key) in out + said)
     else:

@@ -683,7 +683,8 @@ class Deal:
             if (value * ONE).denominator != 1:
                 if role == "units":
                     raise self.fault(f"units has more than eight decimals: {part}")
-                value, self.rounded = rounded(value), self.rounded + 1
+                value = rounded(value)
+                self.rounded += role != "rate"
             if abs(value * ONE) >= UNITS_LIMIT:
                 raise self.fault(f"{role} is out of range: {part}")
             total += value

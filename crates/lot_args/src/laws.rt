@@ -27,7 +27,8 @@ ghost use Rattle.lot_without.specs.declared.without.Without.TheVariants.{Batch, 
 /// `clap` accepts the arguments `post --book f --batch a --from 7`, and these are the values that it matches.
 pub fn a_post_names_its_parts()
     ensures taken { takes program_app a_post ≡ true }
-    ensures parts { parts_of (subcommand_of program_app a_post) ≡ Some (codes "post", codes "f", codes "a", 7) }
+    ensures parts { parts_of (subcommand_of program_app a_post)
+        ≡ Some (codes "post", codes "f", codes "a", 7) }
     ensures flags { flags_of a_post ≡ Some (Keep, Each, Ten) }
 {}
 

@@ -419,7 +419,8 @@ fn add_words<'a>(
     mut program: Command<'a>,
     words: &[Word],
 ) -> Result<Command<'a>, AllocError>
-    ensures { IfOk result (λ more. app_of more ≡ with_words (app_of program.entry) (map app_for words.now)) }
+    ensures { IfOk result
+        (λ more. app_of more ≡ with_words (app_of program.entry) (map app_for words.now)) }
 {
     for word in words {
         let command = command(alloc, word)?.long_about(word.about);

@@ -263,7 +263,8 @@ fn account(
     option: BadOption,
 ) -> Result<Account, AllocError>
     requires { IsTrue (has_account (name_of option) (rows_of (found_of options.now))) }
-    ensures { IfOk result (λ account. account ≡ value_of (name_of option) (rows_of (found_of options.now))) }
+    ensures { IfOk result
+        (λ account. account ≡ value_of (name_of option) (rows_of (found_of options.now))) }
 {
     match Account::new(alloc, value(options, option.name())) {
         Ok(account) => Ok(account),
@@ -482,7 +483,8 @@ pub(crate) fn all_given<'m, 'a>(options: &'m ArgMatches<'a>, name: &str) -> Opti
 
 /// Returns the value of an option where it is given.
 fn given<'a>(options: &ArgMatches<'a>, name: &str) -> Option<&'a str>
-    ensures { option_map (λ text. text.now) result ≡ first_of name.now (rows_of (found_of options.now)) }
+    ensures { option_map
+        (λ text. text.now) result ≡ first_of name.now (rows_of (found_of options.now)) }
 {
     options.get_str(name)
 }

@@ -41,10 +41,13 @@ pub fn parse_words(alloc: Global, words: &[String]) -> Result<Request, WordsFaul
         → HaveMisplaced (map string_bytes words.now) option }
     ensures missing { (needed : Needed) → result ≡ Err (MissingOptions needed)
         → LackSome (map string_bytes words.now) needed }
-    ensures bad { (bad : BadOption) → result ≡ Err (BadValue bad) → HaveBadIn (map string_bytes words.now) bad }
-    ensures kind { (error : _) → result ≡ Err (Usage error) → IsAmong (kind_of error) (fault_of program_app (map string_bytes words.now)) }
+    ensures bad { (bad : BadOption) → result ≡ Err (BadValue bad)
+        → HaveBadIn (map string_bytes words.now) bad }
+    ensures kind { (error : _) → result ≡ Err (Usage error)
+        → IsAmong (kind_of error) (fault_of program_app (map string_bytes words.now)) }
     ensures memory { (error : _) → result ≡ Err (Usage error) → kind_of error ≢ OutOfMemory }
-    ensures taken { takes program_app (map string_bytes words.now) ≡ true → (error : _) → result ≢ Err (Usage error) }
+    ensures taken { takes program_app (map string_bytes words.now) ≡ true → (error : _)
+        → result ≢ Err (Usage error) }
 {
     let matches = program(alloc)?.try_get_matches_from(words)?;
     match matches.subcommand() {

@@ -142,7 +142,8 @@ fn named_date(text: &[u8]) -> Option<(u16, u16, u16)>
 /// Returns what stands before and after the first separator.
 fn cut(text: &[u8]) -> Option<(&[u8], &[u8])>
     ensures { MatchOption result (slice_split is_separator text.now ≡ text.now ∷ [])
-        (λ cut. slice_split is_separator text.now ≡ cut.0.now ∷ slice_split is_separator cut.1.now) }
+        (λ cut.
+        slice_split is_separator text.now ≡ cut.0.now ∷ slice_split is_separator cut.1.now) }
 {
     let at = text.iter().position(|b| is_separator(*b))?;
     Some((&text[..at], &text[at + 1..]))

@@ -23,10 +23,12 @@ pub fn show_gains<S: Alter, W: CountedWrite>(
     writer: &mut W,
 ) -> Result<(), ShowFault>
     ensures shows { HoldsOfBook S.Store book.old book.new
-        (λ entries. ShowsGains entries (first, last) (W.contents writer.old) (W.contents writer.new) result) }
+        (λ entries.
+        ShowsGains entries (first, last) (W.contents writer.old) (W.contents writer.new) result) }
     ensures lines { ShowsSomeGains (W.contents writer.old) (W.contents writer.new) result }
     ensures rows { HoldsOfTables S.Store book.old book.new
-        (λ tables. ShowsAllSales tables (first, last) (W.contents writer.old) (W.contents writer.new) result) }
+        (λ tables.
+        ShowsAllSales tables (first, last) (W.contents writer.old) (W.contents writer.new) result) }
     ensures reads { ReadsBook S.Store book.old book.new result }
     ensures cause { HasCause result (record {
       before = W.calls writer.old;

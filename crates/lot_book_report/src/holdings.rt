@@ -26,10 +26,12 @@ pub fn show_holdings<S: Alter, W: CountedWrite>(
     writer: &mut W,
 ) -> Result<(), ShowFault>
     ensures shows { HoldsOfBook S.Store book.old book.new
-        (λ entries. ShowsHoldings entries day (W.contents writer.old) (W.contents writer.new) result) }
+        (λ entries.
+        ShowsHoldings entries day (W.contents writer.old) (W.contents writer.new) result) }
     ensures lines { ShowsSomeHoldings (W.contents writer.old) (W.contents writer.new) result }
     ensures rows { HoldsOfTables S.Store book.old book.new
-        (λ tables. ShowsAllHoldings tables day (W.contents writer.old) (W.contents writer.new) result) }
+        (λ tables.
+        ShowsAllHoldings tables day (W.contents writer.old) (W.contents writer.new) result) }
     ensures reads { ReadsBook S.Store book.old book.new result }
     ensures cause { HasCause result (record {
       before = W.calls writer.old;
@@ -53,10 +55,12 @@ fn write_holdings<S: Alter, W: CountedWrite>(
     writer: &mut W,
 ) -> Result<(), ShowFault>
     ensures shows { HoldsOfBook S.Store book.old book.new
-        (λ entries. ShowsWith entries prices.now (W.contents writer.old) (W.contents writer.new) result) }
+        (λ entries.
+        ShowsWith entries prices.now (W.contents writer.old) (W.contents writer.new) result) }
     ensures lines { ShowsSomeHoldings (W.contents writer.old) (W.contents writer.new) result }
     ensures rows { HoldsOfTables S.Store book.old book.new
-        (λ tables. ShowsAllWith tables prices.now (W.contents writer.old) (W.contents writer.new) result) }
+        (λ tables.
+        ShowsAllWith tables prices.now (W.contents writer.old) (W.contents writer.new) result) }
     ensures reads { ReadsBook S.Store book.old book.new result }
     ensures cause { HasCause result (record {
       before = W.calls writer.old;

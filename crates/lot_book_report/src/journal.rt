@@ -19,7 +19,8 @@ pub fn show_journal<S: Alter, W: CountedWrite>(
     writer: &mut W,
 ) -> Result<(), ShowFault>
     ensures shows { HoldsOfBook S.Store book.old book.new
-        (λ entries. ShowsJournal (entry_rows 1 entries) (W.contents writer.old) (W.contents writer.new) result) }
+        (λ entries. ShowsJournal (entry_rows 1 entries) (W.contents writer.old)
+        (W.contents writer.new) result) }
     ensures lines { ShowsSomeJournal (W.contents writer.old) (W.contents writer.new) result }
     ensures rows { HoldsOfTables S.Store book.old book.new
         (λ tables. ShowsAllEntries tables (W.contents writer.old) (W.contents writer.new) result) }

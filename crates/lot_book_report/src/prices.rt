@@ -27,8 +27,10 @@ impl DayPrices {
         book: &mut Book<S>,
         day: Day,
     ) -> Result<DayPrices, ShowFault>
-        ensures prices { IfOk result (λ prices. HoldsOfBook S.Store book.old book.new (λ entries. KeepsPrices entries day prices)) }
-        ensures rows { IfOk result (λ prices. HoldsOfTables S.Store book.old book.new (λ tables. KeepsRowPrices tables day prices)) }
+        ensures prices { IfOk result (λ prices.
+            HoldsOfBook S.Store book.old book.new (λ entries. KeepsPrices entries day prices)) }
+        ensures rows { IfOk result (λ prices.
+            HoldsOfTables S.Store book.old book.new (λ tables. KeepsRowPrices tables day prices)) }
         ensures fault { IfErr result IsOfBook }
         ensures reads { ReadsBook S.Store book.old book.new result }
     {

@@ -9,7 +9,8 @@ use lot_num::{Rate, Units};
 /// Returns what a cost gives of the lot, the total of a whole cost aside.
 pub(crate) fn given(cost: &Cost) -> &CostSpec
     ensures value { result.now ≡ given_of cost.now }
-    ensures number { (units : ℤ) → (result.now.number ≡ None) ⊎ (result.now.number ≡ number_of units cost.now) }
+    ensures number { (units : ℤ)
+        → (result.now.number ≡ None) ⊎ (result.now.number ≡ number_of units cost.now) }
 {
     match cost {
         Cost::Each(spec) => spec,
@@ -22,7 +23,8 @@ pub(crate) fn given(cost: &Cost) -> &CostSpec
 pub(crate) fn number(cost: &Cost, units: Units) -> Result<Option<Rate>, BookingFault>
     ensures number { IfOk result (λ number. number ≡ number_of units cost.now) }
     ensures exact { IsOk result → is_inexact units cost.now ≡ false }
-    ensures inexact { IfErr result (λ fault. (fault ≡ InexactCost) × (is_inexact units cost.now ≡ true)) }
+    ensures inexact { IfErr result
+        (λ fault. (fault ≡ InexactCost) × (is_inexact units cost.now ≡ true)) }
 {
     match cost {
         Cost::Each(spec) => Ok(spec.number),

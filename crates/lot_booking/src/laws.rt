@@ -17,7 +17,8 @@ pub fn there_is_at_most_one_choice()
     ensures strict { (lots : List (LotKey × ℤ)) (amount : ℕ) (one other : Choice)
         → IsChoice OneOrWhole lots amount one → IsChoice OneOrWhole lots amount other
         → AllByRecursion (λ (lot : LotKey × ℤ). one lot.0 ≡ other lot.0) lots }
-    ensures in_turn { (before : LotKey → LotKey → Bool) (lots : List (LotKey × ℤ)) (amount : ℕ) (one other : Choice)
+    ensures in_turn { (before : LotKey → LotKey → Bool) (lots : List (LotKey × ℤ)) (amount : ℕ)
+        (one other : Choice)
         → IsOrder before
         → IsChoice (InTurn before) lots amount one → IsChoice (InTurn before) lots amount other
         → AllByRecursion (λ (lot : LotKey × ℤ). one lot.0 ≡ other lot.0) lots }
@@ -55,7 +56,8 @@ pub fn orders_are_those_of_their_names(a: &Lot, b: &Lot) -> ((bool, bool, bool),
 /// A posting with braces comes to exactly one outcome: one list of legs, or one refusal.
 pub fn a_posting_has_one_outcome()
     ensures some { (posting : Braced) → (outcome : Outcome) × ComesTo posting outcome }
-    ensures one { (posting : Braced) (one other : Outcome) → ComesTo posting one → ComesTo posting other → one ≡ other }
+    ensures one { (posting : Braced) (one other : Outcome) → ComesTo posting one
+        → ComesTo posting other → one ≡ other }
 {
     matching_lots_are_distinct();
 }
@@ -71,7 +73,8 @@ pub fn legs_add_up_to_the_posting()
 pub fn a_reduction_never_crosses_zero()
     ensures takes_from { (posting : Braced) (legs : List (LotKey × ℤ))
         → ComesTo posting (Legs true legs) → AllByRecursion (TakesFrom (candidates posting)) legs }
-    ensures distinct { (posting : Braced) (legs : List (LotKey × ℤ)) → ComesTo posting (Legs true legs) → HaveDistinctKeys legs }
+    ensures distinct { (posting : Braced) (legs : List (LotKey × ℤ))
+        → ComesTo posting (Legs true legs) → HaveDistinctKeys legs }
 {
     matching_lots_are_distinct();
 }

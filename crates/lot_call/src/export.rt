@@ -16,7 +16,8 @@ const SHOWN_FIELDS: usize = 4;
 /// How lines are counted.
 const COUNTED: &str = "blank lines not counted";
 
-/// Says which rows of an export are posted by hand, each with its key, and how many are passed over.
+/// Says which rows of an export are posted by hand, each with its key, how many are passed over, and how many numbers were rounded as
+/// they were read.
 pub fn say_aside(call: &Call<'_>, export: &Export) {
     if call.is_quiet() {
         return;
@@ -41,6 +42,11 @@ pub fn say_aside(call: &Call<'_>, export: &Export) {
     if skipped > 0 {
         let end = if skipped == 1 { "" } else { "s" };
         let _ = eprintln!(rt; "lotbook: {skipped} row{end} skipped");
+    }
+    let rounded = export.rounded;
+    if rounded > 0 {
+        let end = if rounded == 1 { " was" } else { "s were" };
+        let _ = eprintln!(rt; "lotbook: {rounded} number{end} rounded to eight decimals");
     }
 }
 

@@ -91,7 +91,8 @@ pub fn serve<R: CountedRead, W: CountedWrite, P: Progress + Watch + Look + Aside
       told = record { status = result.status; halt = result.halt };
     }) }
     // With the connection open a crash leaves the last commit, and nothing else.
-    ensures safe { IsTrue (state S.Store result.conn).is_open → (trees : Trees) → (state S.Store result.conn).may_leave trees
+    ensures safe { IsTrue (state S.Store result.conn).is_open → (trees : Trees)
+        → (state S.Store result.conn).may_leave trees
         → trees ≡ (state S.Store result.conn).committed.trees }
     ensures unread { ReadsNothing action.now → reader.new ≡ reader.old }
     ensures status { EndsWith action.now result.status }

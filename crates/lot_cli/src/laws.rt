@@ -80,8 +80,10 @@ pub fn the_headline()
 /// Nothing else is sent in between. A list that is sent again from its first command may come to another book. A sale that was
 /// refused may then be accepted, since what was bought after it is there now.
 pub fn sending_again_is_one_run()
-    ensures { (before book : List Entry) (commands : List (Key × Command)) (replied : List Verdict) (again : List (List Verdict))
-        → SentAgain before commands replied again book → IsOneRun before commands replied again book }
+    ensures { (before book : List Entry) (commands : List (Key × Command)) (replied : List Verdict)
+        (again : List (List Verdict))
+        → SentAgain before commands replied again book
+        → IsOneRun before commands replied again book }
 {}
 
 /// Commands that are kept all or none are sent again, all of them, as often as a session is stopped, and nothing else in
@@ -115,7 +117,8 @@ pub fn a_row_acts_once()
         (decimals : Option ℕ) (row : Row) (keyed again : Key × Asked) (verdict : Verdict)
         → IsKeyed source accounts decimals row keyed → IsKeyed source accounts decimals row again
         → text_under book keyed.0 ≡ Some (canonical keyed.1.command)
-        → JudgesOn book again.0 again.1.command verdict after → (verdict ≡ Repeated) × (after ≡ book) }
+        → JudgesOn book again.0 again.1.command verdict after
+        → (verdict ≡ Repeated) × (after ≡ book) }
     ensures refused { (book after : List Entry) (source : List ℕ) (accounts : Accounts)
         (decimals others : Option ℕ) (row other : Row) (keyed next : Key × Asked)
         (verdict : Verdict)

@@ -35,11 +35,12 @@ pub(crate) fn post<R: CountedRead, W: CountedWrite, N: Watch + Look, S: Alter>(
 ) -> Served<S>
     requires outside { conn.in_transaction ≡ false }
     requires unlimited { conn.step_limit ≡ None }
-    ensures posts { Posts asked.now.batch asked.now.rounding asked.now.from asked.now.keeping (record {
-      bytes = R.remaining reader.old;
-      left = R.remaining reader.new;
-      calls = record { before = R.calls reader.old; after = R.calls reader.new };
-    }) (state S.Store conn) (state S.Store result.conn)
+    ensures posts { Posts asked.now.batch asked.now.rounding asked.now.from asked.now.keeping
+        (record {
+          bytes = R.remaining reader.old;
+          left = R.remaining reader.new;
+          calls = record { before = R.calls reader.old; after = R.calls reader.new };
+        }) (state S.Store conn) (state S.Store result.conn)
         (W.contents writer.old) (W.contents writer.new) (record {
           before = W.calls writer.old;
           after = W.calls writer.new;

@@ -128,7 +128,8 @@ fn show<W: CountedWrite, S: Alter>(
         ShowsReport report place entries (W.contents writer.old) (W.contents writer.new) result) }
     ensures some { ShowsSome report (W.contents writer.old) (W.contents writer.new) result }
     ensures rows { HoldsOfTables S.Store book.old book.new
-        (λ tables. ShowsAllRows report tables (W.contents writer.old) (W.contents writer.new) result) }
+        (λ tables.
+        ShowsAllRows report tables (W.contents writer.old) (W.contents writer.new) result) }
     ensures reads { ReadsBook S.Store book.old book.new result }
     ensures cause { HasCause result (record {
       before = W.calls writer.old;

@@ -142,7 +142,8 @@ fn push_note(text: &mut String, note: &Note) -> Result<(), AllocError>
 
 /// Appends a character of a note, with a backslash before it where it is a quote or a backslash.
 fn push_escaped(text: &mut String, character: char) -> Result<(), AllocError>
-    ensures { OnOk result (string_bytes text.new ≡ string_bytes text.old ++ escaped (encode_utf8 character)) }
+    ensures { OnOk result
+        (string_bytes text.new ≡ string_bytes text.old ++ escaped (encode_utf8 character)) }
 {
     match character {
         '"' => text.push_str("\\\""),

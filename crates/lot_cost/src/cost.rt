@@ -65,7 +65,8 @@ impl WholeCost {
         day: Option<Day>,
         label: Option<Label>,
     ) -> Option<WholeCost>
-        ensures { SomeIff result (pos 0 ≤ℤ total) (total, record { number = None; currency = currency; day = day; label = label }) }
+        ensures { SomeIff result (pos 0 ≤ℤ total)
+            (total, record { number = None; currency = currency; day = day; label = label }) }
     {
         if total < Units::ZERO {
             return None;

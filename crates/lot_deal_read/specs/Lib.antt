@@ -10,4 +10,5 @@ pub mod Cash
 pub mod Incoming
 pub mod Ratio
 pub mod Row
+pub mod Rounded
 pub mod Kinds

@@ -18,7 +18,6 @@ use Rattle.lot_roles.specs.Keys.{key_text_of}
 use Rattle.lot_roles.specs.Kinds.{IsKindFault, IsOnly}
 use Rattle.lot_roles.specs.Names.{commodity_of}
 use Rattle.lot_roles.specs.Narration.{narration_of}
-use Rattle.lot_roles.specs.Numbers.{rounded_in}
 use Rattle.lot_roles.specs.Reading.{Read, ◌>>=◌}
 use Rattle.lot_roles.specs.declared.fault.RowFault.{RowFault}
 use Rattle.lot_roles.specs.declared.fault.RowFault.TheVariants.{CancelledSale, NoKind}
@@ -162,37 +161,3 @@ pub record IsFaulty (profile : Profile) (row : SheetRow) (fault : RowFault) : Ty
 -- a row says nothing, for that fault
 abbrev pub SaysNothing : Profile → SheetRow → RowFault → Type 0
 SaysNothing profile row fault = HasNoRules profile row fault (slice_get profile.tables row.table) ⊎ IsFaulty profile row fault
-
--- ---- Numbers that were rounded.
-
--- the roles whose numbers a kind uses
-abbrev pub number_roles : Kind → List Role
-number_roles kind.Buy = role.Amount ∷ role.Price ∷ role.Fee ∷ role.Rate ∷ []
-number_roles kind.Sell = role.Amount ∷ role.Price ∷ role.Fee ∷ role.Rate ∷ []
-number_roles kind.CancelBuy = role.Amount ∷ role.Price ∷ role.Fee ∷ role.Rate ∷ []
-number_roles kind.CancelSell = []
-number_roles kind.Dividend = role.Amount ∷ role.Tax ∷ role.Booked ∷ []
-number_roles kind.Interest = role.Amount ∷ role.Tax ∷ role.Booked ∷ []
-number_roles kind.Tax = role.Amount ∷ []
-number_roles kind.Fee = role.Amount ∷ []
-number_roles kind.Deposit = role.Amount ∷ []
-number_roles kind.Withdrawal = role.Amount ∷ []
-number_roles kind.Exchange = role.Amount ∷ role.Other ∷ role.Fee ∷ []
-number_roles kind.Reward = role.Amount ∷ role.Price ∷ []
-number_roles kind.TransferIn = role.Cost ∷ []
-number_roles kind.Split = []
-number_roles kind.Price = role.Price ∷ []
-number_roles kind.ByHand = []
-number_roles kind.Skip = []
-
--- how many numbers of a row were rounded to eight decimals as they were read
-pub record AreRounded (profile : Profile) (row : SheetRow) (count : ℕ) : Type 0 where
-  pub rules : Rules
-  pub are : AreRules profile row rules
-  pub is : count ≡ rounded_in rules row (number_roles rules.kind.now.kind)
-
--- there are no rules by which a row is read, and so no numbers
-pub record AreNone (profile : Profile) (row : SheetRow) (count : ℕ) : Type 0 where
-  pub fault : RowFault
-  pub no_rules : HasNoRules profile row fault (slice_get profile.tables row.table)
-  pub none : count ≡ 0

@@ -1,6 +1,6 @@
 //! What a row of a broker's file says (docs/FORMATS.md, Profiles).
 //!
-//! - `row`: what a row says by the rules of its table and its kind (`read_row`), and how many numbers were rounded
+//! - `row`: what a row says by the rules of its table and its kind (`read_row`), and how many of its numbers were rounded
 //!   (`rounded_numbers`).
 //! - `says`: `RowSays`, what that is.
 //! - `trades`, `movements`, `incomes`, `exchanges`, `incomings`, `splits`, `quotes`: that by its kind.
@@ -11,7 +11,8 @@
 //! - `pricing`: what units are worth at a price.
 //! - `money`: an amount of a currency that a row says.
 //! - `needed`: what a kind needs of a row.
-//! - `words`: the word of each kind, and the roles whose numbers it uses.
+//! - `rounded`: the roles whose numbers are rounded as they are read.
+//! - `words`: the word of each kind.
 //! - `laws`: laws of the definitions that the contract of `read_row` cites.
 #![tactic(auto)]
 
@@ -27,6 +28,7 @@ mod movements;
 mod needed;
 mod pricing;
 mod quotes;
+mod rounded;
 mod row;
 mod says;
 mod splits;

@@ -1,5 +1,5 @@
 //! What a row says by the rules of its table and its kind.
-ghost use Rattle.std.specs.Prelude.{◌≡◌, ◌≢◌, ◌⊎◌, IfOk, IfErr, IfSome, MatchOption, Ok, Err};
+ghost use Rattle.std.specs.Prelude.{◌≡◌, ◌≢◌, IfOk, IfErr, IfSome, MatchOption, Ok, Err};
 ghost use Rattle.lot_roles.specs.Reading.{Gives};
 ghost use Rattle.lot_roles.specs.declared.fault.RowFault.{RowFault};
 ghost use Rattle.lot_roles.specs.declared.fault.RowFault.TheVariants.{Memory};
@@ -9,7 +9,8 @@ ghost use Rattle.std.specs.List.{slice_get};
 ghost use Rattle.lot_deal_read.specs.Cash.{movement_of};
 ghost use Rattle.lot_deal_read.specs.Kinds.{AreTermsOf, HasNoTerms, IsOfKind, SaidByKind, SaysByKind};
 ghost use Rattle.lot_deal_read.specs.Signs.{HasSign, HaveSigns, SaidWithSigns, SaysWithSigns};
-ghost use Rattle.lot_deal_read.specs.Row.{AreNone, AreRounded, AreRules, HasNoRules, cancellation_of, purchase_of, terms_of, Says, SaysNothing, deal_on, dated_of, note_of, number_roles, saying_of, says_of, split_of, word_of};
+ghost use Rattle.lot_deal_read.specs.Row.{AreRules, HasNoRules, cancellation_of, purchase_of, terms_of, Says, SaysNothing, deal_on, dated_of, note_of, saying_of, says_of, split_of, word_of};
+ghost use Rattle.lot_deal_read.specs.Rounded.{IsRounded};
 
 use crate::exchanges::exchange;
 use crate::incomes::income;
@@ -17,10 +18,11 @@ use crate::incomings::{reward, transfer};
 use crate::movements::{Sign, movement};
 use crate::needed::symbol_in;
 use crate::quotes::quote;
+use crate::rounded::amount_roles;
 use crate::says::{Dated, RowSays, Saying};
 use crate::splits::change;
 use crate::trades::{Direction, Traded, sale, trade};
-use crate::words::{number_roles, word};
+use crate::words::word;
 use lot_base::{Day, Note};
 use lot_deal::{Deal, Movement, Terms};
 use lot_profile::{AccountRole, Kind, Profile, Role};
@@ -53,13 +55,13 @@ pub fn read_row(alloc: Global, profile: &Profile, row: &Row) -> Result<RowSays, 
     says(alloc, &rules, row)
 }
 
-/// Returns how many numbers of a row were rounded to eight decimals as they were read, of the roles that its kind uses. There are
-/// none of a row that is of no kind, or of two.
+/// Returns how many amounts and prices of a row were rounded to eight decimals as they were read. There are none of a row that is of
+/// no kind, or of two.
 pub fn rounded_numbers(profile: &Profile, row: &Row) -> usize
-    ensures { AreRounded profile.now row.now result ⊎ AreNone profile.now row.now result }
+    ensures { IsRounded profile.now row.now result }
 {
     match rules_of(profile, row) {
-        Ok(rules) => rounded_in(&rules, row, number_roles(rules.kind.kind)),
+        Ok(rules) => rounded_in(&rules, row, amount_roles(&rules, row)),
         Err(_) => 0,
     }
 }

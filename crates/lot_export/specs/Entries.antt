@@ -1,6 +1,7 @@
 -- The rows of an export, each with what it says (docs/FORMATS.md, Profiles).
-use Rattle.std.specs.Prelude.{◌≡◌, ◌≢◌, ℕ, ◌+◌, ◌-◌, ◌≤◌, ⊤, Bool, true, false, List, ◌∷◌, ◌++◌, count_by, length, Option, Some, None}
-use Rattle.std.specs.List.{AllZip, slice_get}
+use Rattle.std.specs.Prelude.{◌≡◌, ◌≢◌, ℕ, ◌+◌, ◌-◌, ◌^◌, ◌≤◌, min, ⊤, Bool, true, false, List, ◌∷◌, ◌++◌, count_by, length, Option, Some, None}
+use Rattle.std.specs.List.{AllZip, slice_get, sum_by}
+use Rattle.lot_deal_read.specs.Rounded.{IsRounded}
 use Rattle.lot_deal_read.specs.Row.{Says, SaysNothing}
 use Rattle.lot_deal_read.specs.declared.says.Dated.{Dated}
 use Rattle.lot_deal_read.specs.declared.says.RowSays.{RowSays}
@@ -17,6 +18,7 @@ pub record IsEntry (profile : Profile) (row : SheetRow) (entry : Entry) : Type 0
   pub number : entry.number ≡ row.number
   pub table : entry.table ≡ row.table
   pub says : Says profile row entry.says
+  pub rounded : IsRounded profile row entry.rounded
 
 -- rows with what each says, in their order
 abbrev pub AreEntries : Profile → List SheetRow → List Entry → Type 0
@@ -68,3 +70,7 @@ is_skipped_by (says.Dated dated) = false
 
 abbrev pub skipped_in : List Entry → ℕ
 skipped_in entries = count_by (λ (entry : Entry). is_skipped_by entry.says) entries
+
+-- how many amounts and prices of rows were rounded as they were read; as many as can be counted where there are more
+abbrev pub rounded_in : List Entry → ℕ
+rounded_in entries = min (sum_by (λ (entry : Entry). entry.rounded) entries) (2 ^ 64 - 1)

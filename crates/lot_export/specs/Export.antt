@@ -5,7 +5,7 @@ use Rattle.lot_sheet.specs.Sheet.{AreRows, SheetRow, HasFault as HasSheetFault}
 use Rattle.lot_export.specs.Cancels.{ArePartners}
 use Rattle.lot_sheet.specs.declared.fault.SheetFault.{SheetFault}
 use Rattle.lot_export.specs.Faults.{of_sheet}
-use Rattle.lot_export.specs.Entries.{AreEntries, FailsAmong as RowsFail, skipped_in}
+use Rattle.lot_export.specs.Entries.{AreEntries, FailsAmong as RowsFail, rounded_in, skipped_in}
 use Rattle.lot_export.specs.HandedIn.{AreHandedIn, FailsAmong, judged_of}
 use Rattle.lot_export.specs.Lines.{AreJudged, IsOrderFault, orders_of}
 use Rattle.lot_export.specs.Named.{by_hand_of}
@@ -36,6 +36,7 @@ pub record IsExportOf (source : List ℕ) (profile : Profile) (except : List (Li
   pub given : AreHandedIn source sheet (judged_of sheet) (export.given.numbers.items, export.given.commands.items)
   pub by_hand : export.by_hand ≡ by_hand_of entries except sheet.rows.now
   pub skipped : export.skipped ≡ skipped_in entries
+  pub rounded : export.rounded ≡ rounded_in entries
 
 -- a row that is to be handed in asks for nothing, and is the first such
 pub record HasNothing (profile : Profile) (except : List (List ℕ)) (entries : List Entry) (given : ExportFault) : Type 0 where

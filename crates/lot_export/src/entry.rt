@@ -1,11 +1,11 @@
 //! The rows of a file, each with what it says.
 ghost use Rattle.std.specs.Prelude.{◌≡◌, IfErr, IfOk};
 ghost use Rattle.std.specs.Option.{option_copied};
-ghost use Rattle.lot_export.specs.Entries.{AreEntries, FailsAmong, IsEntry, IsRowFault, dated_at, is_skipped_by, skipped_in};
+ghost use Rattle.lot_export.specs.Entries.{AreEntries, FailsAmong, IsEntry, IsRowFault, dated_at, is_skipped_by, rounded_in, skipped_in};
 
 use crate::fault::ExportFault;
 use lot_command::Items;
-use lot_deal_read::{Dated, RowSays, read_row};
+use lot_deal_read::{Dated, RowSays, read_row, rounded_numbers};
 use lot_profile::Profile;
 use lot_roles::RowFault;
 use lot_sheet::Row;
@@ -18,6 +18,8 @@ pub(crate) struct Entry {
     /// The place of its table, counted from 0.
     pub(crate) table: usize,
     pub(crate) says: RowSays,
+    /// How many of its amounts and prices were rounded to eight decimals as they were read.
+    pub(crate) rounded: usize,
 }
 
 impl Drop for Entry {
@@ -27,6 +29,7 @@ impl Drop for Entry {
             number: _number,
             table: _table,
             says: _says,
+            rounded: _rounded,
         } = self;
     }
 }
@@ -61,6 +64,7 @@ fn entry_at(alloc: Global, profile: &Profile, row: &Row) -> Result<Entry, Export
             number: row.number(),
             table: row.table(),
             says,
+            rounded: rounded_numbers(profile, row),
         }),
         Err(RowFault::Memory) => Err(ExportFault::Memory),
         Err(fault) => Err(ExportFault::Row {
@@ -78,6 +82,17 @@ pub(crate) fn dated_at(entries: &[Entry], number: usize) -> Option<&Dated>
         RowSays::Dated(dated) => Some(dated),
         RowSays::Skipped => None,
     }
+}
+
+/// Returns how many amounts and prices of rows were rounded as they were read, at most `usize::MAX`.
+pub(crate) fn rounded(entries: &[Entry]) -> usize
+    ensures { result ≡ rounded_in entries.now }
+{
+    let mut count = 0usize;
+    for entry in entries {
+        count = count.saturating_add(entry.rounded);
+    }
+    count
 }
 
 /// Returns how many rows are passed over by a rule.

@@ -7,7 +7,7 @@ ghost use Rattle.lot_export.specs.HandedIn.{HaveNext};
 ghost use Rattle.lot_export.specs.Lines.{AreJudged, IsOrderFault, orders_of};
 
 use crate::cancel::trades;
-use crate::entry::{Entry, entries, skipped};
+use crate::entry::{Entry, entries, rounded, skipped};
 use crate::fault::ExportFault;
 use crate::handed_in::{Given, Sheet, handed_in};
 use crate::line::{lines, orders};
@@ -28,6 +28,8 @@ pub struct Export {
     pub by_hand: Items<Named>,
     /// How many rows are passed over by a rule.
     pub skipped: usize,
+    /// How many amounts and prices of rows were rounded to eight decimals as they were read, at most `usize::MAX`.
+    pub rounded: usize,
 }
 
 /// Is told what an export comes to.
@@ -89,6 +91,7 @@ fn export_of(
         given: handed_in(alloc, source, &sheet)?,
         by_hand: by_hand(alloc, entries, except, rows.as_slice())?,
         skipped: skipped(entries),
+        rounded: rounded(entries),
     })
 }
 

@@ -18,11 +18,14 @@ pub fn header<'w, 'a>(
     room: &'w mut CurrencyWords<'a>,
     tokens: &Tokens<'_, 'a>,
 ) -> Result<HeaderForm<'w, 'a>, FormFault>
-    ensures is { IfOk result (λ form. IsHeader tokens.now form.day.now (directive_seen form.directive)) }
-    ensures unknown { IsErrOf result FormFault.UnknownDirective → (tokens.now ≡ []) ⊎ IsUnknown tokens.now }
+    ensures is { IfOk result
+        (λ form. IsHeader tokens.now form.day.now (directive_seen form.directive)) }
+    ensures unknown { IsErrOf result FormFault.UnknownDirective
+        → (tokens.now ≡ []) ⊎ IsUnknown tokens.now }
     ensures known { IsErrOf result FormFault.Syntax → IsUnknown tokens.now → ⊥ }
     ensures some { IsErrOf result FormFault.Syntax → tokens.now ≢ [] }
-    ensures none { OnErr result ((day : List ℕ) (directive : Directive) → IsHeader tokens.now day directive → ⊥) }
+    ensures none { OnErr result ((day : List ℕ) (directive : Directive)
+        → IsHeader tokens.now day directive → ⊥) }
 {
     written(room, tokens)
 }
@@ -33,7 +36,8 @@ fn written<'w, 'a>(
     room: &'w mut CurrencyWords<'a>,
     tokens: &Tokens<'_, 'a>,
 ) -> Result<HeaderForm<'w, 'a>, FormFault>
-    ensures { MatchResult result (λ header. header_of tokens.now ≡ Ok (header_seen header)) (λ fault. header_of tokens.now ≡ Err fault) }
+    ensures { MatchResult result (λ header. header_of tokens.now ≡ Ok (header_seen header))
+        (λ fault. header_of tokens.now ≡ Err fault) }
 {
     match tokens.split_first() {
         Some((Token::Date(day), rest)) => match directive(room, &rest) {
@@ -50,7 +54,8 @@ fn directive<'w, 'a>(
     room: &'w mut CurrencyWords<'a>,
     tokens: &Tokens<'_, 'a>,
 ) -> Result<DirectiveForm<'w, 'a>, FormFault>
-    ensures { MatchResult result (λ form. directive_of tokens.now ≡ Ok (directive_seen form)) (λ fault. directive_of tokens.now ≡ Err fault) }
+    ensures { MatchResult result (λ form. directive_of tokens.now ≡ Ok (directive_seen form))
+        (λ fault. directive_of tokens.now ≡ Err fault) }
 {
     match tokens.split_first() {
         None => Err(FormFault::Syntax),
@@ -70,7 +75,8 @@ fn named<'w, 'a>(
     room: &'w mut CurrencyWords<'a>,
     rest: &Tokens<'_, 'a>,
 ) -> Result<DirectiveForm<'w, 'a>, FormFault>
-    ensures { MatchResult result (λ form. named word.now rest.now ≡ Ok (directive_seen form)) (λ fault. named word.now rest.now ≡ Err fault) }
+    ensures { MatchResult result (λ form. named word.now rest.now ≡ Ok (directive_seen form))
+        (λ fault. named word.now rest.now ≡ Err fault) }
 {
     match word {
         "open" => fitting(opening(room, rest)),
@@ -84,7 +90,9 @@ fn named<'w, 'a>(
 
 /// Returns the form, or `Syntax` where there is none.
 fn fitting<'w, 'a>(form: Option<DirectiveForm<'w, 'a>>) -> Result<DirectiveForm<'w, 'a>, FormFault>
-    ensures { MatchResult result (λ made. fitting (option_map directive_seen form.entry) ≡ Ok (directive_seen made)) (λ fault. fitting (option_map directive_seen form.entry) ≡ Err fault) }
+    ensures { MatchResult result
+        (λ made. fitting (option_map directive_seen form.entry) ≡ Ok (directive_seen made))
+        (λ fault. fitting (option_map directive_seen form.entry) ≡ Err fault) }
 {
     match form {
         Some(form) => Ok(form),
@@ -112,7 +120,8 @@ fn currencies<'t, 'a>(
     currencies: &mut CurrencyWords<'a>,
     tokens: Tokens<'t, 'a>,
 ) -> Option<Tokens<'t, 'a>>
-    ensures { MatchOption result (currencies_at tokens.entry ≡ None) (λ rest. currencies_at tokens.entry ≡ Some (map seen_text currencies.new.items, rest)) }
+    ensures { MatchOption result (currencies_at tokens.entry ≡ None)
+        (λ rest. currencies_at tokens.entry ≡ Some (map seen_text currencies.new.items, rest)) }
 {
     currencies.clear();
     let Some((first, mut rest)) = word(&tokens) else {

@@ -73,7 +73,8 @@ fn price<'a>(tokens: &Tokens<'_, 'a>) -> Option<Option<PriceForm<'a>>>
 
 /// Returns a number and a word, behind which there is nothing.
 fn money<'a>(tokens: &Tokens<'_, 'a>) -> Option<(&'a str, &'a str)>
-    ensures { MatchOption result (money_of tokens.now ≡ None) (λ money. money_of tokens.now ≡ Some (money.0.now, money.1.now)) }
+    ensures { MatchOption result (money_of tokens.now ≡ None)
+        (λ money. money_of tokens.now ≡ Some (money.0.now, money.1.now)) }
 {
     let (number, rest) = number(tokens)?;
     let (currency, rest) = word(&rest)?;
@@ -90,7 +91,8 @@ fn cost<'w, 't, 'a>(
     room: &'w mut Parts<'a>,
     tokens: Tokens<'t, 'a>,
 ) -> Option<(Option<CostForm<'w, 'a>>, Tokens<'t, 'a>)>
-    ensures { MatchOption result (cost_at tokens.entry ≡ None) (λ found. cost_at tokens.entry ≡ Some (option_map cost_seen found.0, found.1)) }
+    ensures { MatchOption result (cost_at tokens.entry ≡ None)
+        (λ found. cost_at tokens.entry ≡ Some (option_map cost_seen found.0, found.1)) }
 {
     match tokens.split_first() {
         Some((Token::Mark(Mark::Open), rest)) => each(room, rest),
@@ -105,7 +107,8 @@ fn each<'w, 't, 'a>(
     room: &'w mut Parts<'a>,
     tokens: Tokens<'t, 'a>,
 ) -> Option<(Option<CostForm<'w, 'a>>, Tokens<'t, 'a>)>
-    ensures { MatchOption result (each_at tokens.entry ≡ None) (λ found. each_at tokens.entry ≡ Some (option_map cost_seen found.0, found.1)) }
+    ensures { MatchOption result (each_at tokens.entry ≡ None)
+        (λ found. each_at tokens.entry ≡ Some (option_map cost_seen found.0, found.1)) }
 {
     if let Some(rest) = close(&tokens) {
         *room = Parts::none();
@@ -121,7 +124,8 @@ fn whole<'w, 't, 'a>(
     room: &'w mut Parts<'a>,
     tokens: Tokens<'t, 'a>,
 ) -> Option<(Option<CostForm<'w, 'a>>, Tokens<'t, 'a>)>
-    ensures { MatchOption result (whole_at tokens.entry ≡ None) (λ found. whole_at tokens.entry ≡ Some (option_map cost_seen found.0, found.1)) }
+    ensures { MatchOption result (whole_at tokens.entry ≡ None)
+        (λ found. whole_at tokens.entry ≡ Some (option_map cost_seen found.0, found.1)) }
 {
     let rest = distinct_parts(room, tokens)?;
     if !room.have_number() {
@@ -134,7 +138,8 @@ fn whole<'w, 't, 'a>(
 /// Puts the parts of a cost, which can stand in one, into their room, and returns the tokens behind them.
 #[tactic(auto, unfolding(crate::specs::Shape::distinct_at))]
 fn distinct_parts<'t, 'a>(room: &mut Parts<'a>, tokens: Tokens<'t, 'a>) -> Option<Tokens<'t, 'a>>
-    ensures { MatchOption result (distinct_at tokens.entry ≡ None) (λ rest. distinct_at tokens.entry ≡ Some (parts_seen room.new, rest)) }
+    ensures { MatchOption result (distinct_at tokens.entry ≡ None)
+        (λ rest. distinct_at tokens.entry ≡ Some (parts_seen room.new, rest)) }
 {
     let rest = parts(room, tokens)?;
     if room.are_distinct() {
@@ -148,7 +153,8 @@ fn distinct_parts<'t, 'a>(room: &mut Parts<'a>, tokens: Tokens<'t, 'a>) -> Optio
 /// stand in one cost.
 #[tactic(auto, unfolding(crate::specs::Shape::parts_at))]
 fn parts<'t, 'a>(parts: &mut Parts<'a>, tokens: Tokens<'t, 'a>) -> Option<Tokens<'t, 'a>>
-    ensures { MatchOption result (parts_at tokens.entry ≡ None) (λ rest. parts_at tokens.entry ≡ Some (parts_seen parts.new, rest)) }
+    ensures { MatchOption result (parts_at tokens.entry ≡ None)
+        (λ rest. parts_at tokens.entry ≡ Some (parts_seen parts.new, rest)) }
 {
     *parts = Parts::none();
     let Some((first, rest)) = part(&tokens) else {
@@ -171,7 +177,8 @@ fn parts<'t, 'a>(parts: &mut Parts<'a>, tokens: Tokens<'t, 'a>) -> Option<Tokens
 /// Returns the part of a cost at the front and the tokens behind it, or none where there is no part.
 #[tactic(auto, unfolding(crate::specs::Shape::part_at))]
 fn part<'t, 'a>(tokens: &Tokens<'t, 'a>) -> Option<(Part<'a>, Tokens<'t, 'a>)>
-    ensures { MatchOption result (part_at tokens.now ≡ None) (λ found. part_at tokens.now ≡ Some (part_seen found.0, found.1)) }
+    ensures { MatchOption result (part_at tokens.now ≡ None)
+        (λ found. part_at tokens.now ≡ Some (part_seen found.0, found.1)) }
 {
     let (token, rest) = tokens.split_first()?;
     match token {

@@ -6,7 +6,8 @@ use lot_token::{Mark, Token, Tokens};
 
 /// Returns the word at the front and the tokens behind it, or none where the first token is no word.
 pub(crate) fn word<'t, 'a>(tokens: &Tokens<'t, 'a>) -> Option<(&'a str, Tokens<'t, 'a>)>
-    ensures { MatchOption result (as_word tokens.now ≡ None) (λ found. as_word tokens.now ≡ Some (found.0.now, found.1)) }
+    ensures { MatchOption result (as_word tokens.now ≡ None)
+        (λ found. as_word tokens.now ≡ Some (found.0.now, found.1)) }
 {
     match tokens.split_first()? {
         (Token::Word(word), rest) => Some((word, rest)),
@@ -16,7 +17,8 @@ pub(crate) fn word<'t, 'a>(tokens: &Tokens<'t, 'a>) -> Option<(&'a str, Tokens<'
 
 /// Returns the number at the front and the tokens behind it, or none where the first token is no number.
 pub(crate) fn number<'t, 'a>(tokens: &Tokens<'t, 'a>) -> Option<(&'a str, Tokens<'t, 'a>)>
-    ensures { MatchOption result (as_number tokens.now ≡ None) (λ found. as_number tokens.now ≡ Some (found.0.now, found.1)) }
+    ensures { MatchOption result (as_number tokens.now ≡ None)
+        (λ found. as_number tokens.now ≡ Some (found.0.now, found.1)) }
 {
     match tokens.split_first()? {
         (Token::Number(number), rest) => Some((number, rest)),
@@ -63,7 +65,8 @@ pub(crate) fn is_end(tokens: &Tokens<'_, '_>) -> bool
 
 /// Returns the text at the front and the tokens behind it, or none where the first token is no text.
 pub(crate) fn text<'t, 'a>(tokens: &Tokens<'t, 'a>) -> Option<(&'a str, Tokens<'t, 'a>)>
-    ensures { MatchOption result (as_text tokens.now ≡ None) (λ found. as_text tokens.now ≡ Some (found.0.now, found.1)) }
+    ensures { MatchOption result (as_text tokens.now ≡ None)
+        (λ found. as_text tokens.now ≡ Some (found.0.now, found.1)) }
 {
     match tokens.split_first()? {
         (Token::Text(text), rest) => Some((text, rest)),

@@ -65,7 +65,8 @@ fn rows_of(alloc: Global, reader: &mut Reader<&[u8]>) -> Result<Vec<Row>, RowsFa
 fn next(reader: &mut Reader<&[u8]>, written: &mut ByteRecord) -> Result<bool, RowsFault>
     requires { IsOpen reader.old }
     ensures open { IfOk result (λ found. found ≡ true → IsOpen reader.new) }
-    ensures some { IfOk result (λ found. found ≡ true → records_left reader.old ≡ fields_of written.new ∷ records_left reader.new) }
+    ensures some { IfOk result (λ found. found ≡ true
+        → records_left reader.old ≡ fields_of written.new ∷ records_left reader.new) }
     ensures none { IfOk result (λ found. found ≡ false → records_left reader.old ≡ []) }
     ensures memory { IfErr result (λ fault. fault ≡ RowsFault.Memory) }
     ensures failed { IfErr result (λ fault. has_failed reader.new ≡ true) }

@@ -29,7 +29,8 @@ impl Version {
     /// Returns the version that has this header, or `None` where none has it.
     pub fn of(header: &ByteRecord) -> Option<Version>
         ensures some { IfSome result (λ version. fields_of header.now ≡ columns version) }
-        ensures none { IfNone result ((version : Version) → fields_of header.now ≡ columns version → ⊥) }
+        ensures none { IfNone result ((version : Version) → fields_of header.now ≡ columns version
+            → ⊥) }
     {
         if has_fields(header, &FIRST) {
             Some(Version::First)

@@ -72,7 +72,8 @@ impl Inventory {
     /// are held.
     pub fn units(&self, commodity: &Commodity, key: Option<&LotKey>) -> Units
         ensures value { result ≡ units_at self.now.held (commodity.now, option_copied key.entry) }
-        ensures held { finite.get self.now.held (commodity.now, option_copied key.entry) ≡ non_zero result }
+        ensures held { finite.get self.now.held (commodity.now, option_copied key.entry)
+            ≡ non_zero result }
     {
         match self.held.get(commodity) {
             Some(holding) => holding.units(key),
@@ -121,7 +122,8 @@ impl Inventory {
 
     /// Returns the sum of the units of all lots of a commodity, at scale 16, or `None` where it is out of range.
     pub fn sum(&self, commodity: &Commodity) -> Option<Wide>
-        ensures { SomeIff result (IsWide (sum self.now.held commodity.now *ℤ pos one)) (sum self.now.held commodity.now *ℤ pos one) }
+        ensures { SomeIff result (IsWide (sum self.now.held commodity.now *ℤ pos one))
+            (sum self.now.held commodity.now *ℤ pos one) }
     {
         wide(self.total(commodity))
     }
@@ -139,9 +141,12 @@ impl Inventory {
     /// Returns the lots of a commodity that a specification fits, in the order of their keys. The only error is out of memory.
     /// It comes only where some lot fits.
     pub fn matching(&self, commodity: &Commodity, spec: &CostSpec) -> Result<Vec<Lot>, AllocError>
-        ensures all { IfOk result (λ lots. map key_and_units lots.items ≡ matching self.now.held commodity.now spec.now) }
-        ensures numbers { IfOk result (λ lots. AreNumberedBy (opening_at self.now commodity.now) lots.items) }
-        ensures distinct { IfOk result (λ lots. IsStrictlySortedBy lot_cmp (keys_of (map key_and_units lots.items))) }
+        ensures all { IfOk result
+            (λ lots. map key_and_units lots.items ≡ matching self.now.held commodity.now spec.now) }
+        ensures numbers { IfOk result
+            (λ lots. AreNumberedBy (opening_at self.now commodity.now) lots.items) }
+        ensures distinct { IfOk result
+            (λ lots. IsStrictlySortedBy lot_cmp (keys_of (map key_and_units lots.items))) }
         ensures memory { OnErr result (matching self.now.held commodity.now spec.now ≢ []) }
     {
         match self.held.get(commodity) {
@@ -208,7 +213,8 @@ impl Inventory {
     /// Returns an inventory of the lots of a commodity alone, each with its units and its opening number. It has no plain
     /// units, and no other commodity. The only error is out of memory. It comes only where there is such a lot.
     pub fn only_lots(&self, commodity: &Commodity) -> Result<Inventory, AllocError>
-        ensures lots { IfOk result (λ inventory. inventory.held ≡ only_lots self.now.held commodity.now) }
+        ensures lots { IfOk result
+            (λ inventory. inventory.held ≡ only_lots self.now.held commodity.now) }
         ensures openings { IfOk result (λ inventory. (lot : LotKey)
             → opened_at inventory commodity.now lot ≡ opened_at self.now commodity.now lot) }
         ensures memory { OnErr result (lots_of self.now.held commodity.now ≢ []) }
@@ -245,10 +251,14 @@ impl Inventory {
         units: Units,
         opening: u64,
     ) -> Result<(), InventoryFault>
-        ensures ok { OnOk result (self.new ≡ added_lot self.old (commodity.now, option_copied key.entry) units opening) }
-        ensures good { IsOk result → IsUnits (units_at self.old.held (commodity.now, option_copied key.entry) +ℤ units) }
-        ensures range { IsErrOf result Range ↔ (IsUnits (units_at self.old.held (commodity.now, option_copied key.entry) +ℤ units) → ⊥) }
-        ensures memory { IsErrOf result Memory → StoresMore self.old.held (commodity.now, option_copied key.entry) units }
+        ensures ok { OnOk result
+            (self.new ≡ added_lot self.old (commodity.now, option_copied key.entry) units opening) }
+        ensures good { IsOk result
+            → IsUnits (units_at self.old.held (commodity.now, option_copied key.entry) +ℤ units) }
+        ensures range { IsErrOf result Range ↔ (IsUnits
+            (units_at self.old.held (commodity.now, option_copied key.entry) +ℤ units) → ⊥) }
+        ensures memory { IsErrOf result Memory
+            → StoresMore self.old.held (commodity.now, option_copied key.entry) units }
         ensures err { OnErr result (self.new ≡ self.old) }
     {
         let sum = match self.units(commodity, key).checked_add(units) {
@@ -275,8 +285,10 @@ impl Inventory {
         units: Units,
         opening: u64,
     ) -> Result<(), AllocError>
-        ensures ok { OnOk result (self.new ≡ with_lot self.old (commodity.now, option_copied key.entry) units opening) }
-        ensures memory { OnErr result (StoresMore self.old.held (commodity.now, option_copied key.entry) units) }
+        ensures ok { OnOk result
+            (self.new ≡ with_lot self.old (commodity.now, option_copied key.entry) units opening) }
+        ensures memory { OnErr result
+            (StoresMore self.old.held (commodity.now, option_copied key.entry) units) }
         ensures err { OnErr result (self.new ≡ self.old) }
     {
         set(&mut self.held, self.alloc, commodity, key, units, opening)
@@ -300,7 +312,8 @@ impl Holding {
 
     /// Returns the units in the lot of that key, or the plain ones. They are zero where none are held.
     fn units(&self, key: Option<&LotKey>) -> Units
-        ensures { result ≡ unwrap_or (units_of (held_at self.now (option_copied key.entry))) (pos 0) }
+        ensures { result
+            ≡ unwrap_or (units_of (held_at self.now (option_copied key.entry))) (pos 0) }
     {
         match key {
             Some(key) => self.lots.get(key).map_or(Units::ZERO, |lot| lot.units),
@@ -342,7 +355,8 @@ impl Holding {
         ensures ok { OnOk result ((other : Option LotKey) → held_at self.new other
             ≡ cond (is_eq (option_cmp lot_cmp (option_copied key.entry) other))
             (kept_at (option_copied key.entry) units opening) (held_at self.old other)) }
-        ensures err { OnErr result ((other : Option LotKey) → held_at self.new other ≡ held_at self.old other) }
+        ensures err { OnErr result ((other : Option LotKey)
+            → held_at self.new other ≡ held_at self.old other) }
         ensures memory { OnErr result (NeedsLot self.old (option_copied key.entry)) }
         ensures some { OnErr result (units ≢ pos 0) }
     {
@@ -355,7 +369,8 @@ impl Holding {
 
     /// Returns an inventory of these lots, as lots of the commodity.
     fn only_lots(&self, alloc: Global, commodity: &Commodity) -> Result<Inventory, AllocError>
-        ensures lots { IfOk result (λ inventory. inventory ≡ with_lots nothing commodity.now self.now.lots) }
+        ensures lots { IfOk result
+            (λ inventory. inventory ≡ with_lots nothing commodity.now self.now.lots) }
         ensures memory { OnErr result (self.now.lots ≢ []) }
     {
         let mut lots = Inventory::new(alloc);
@@ -371,7 +386,8 @@ impl Holding {
         commodity: &Commodity,
         rows: &mut Vec<(Commodity, Option<LotKey>, Units)>,
     ) -> Result<(), AllocError>
-        ensures all { OnOk result (as_entries rows.new.items ≡ as_entries rows.old.items ++ units_in (rows_of commodity.now self.now)) }
+        ensures all { OnOk result (as_entries rows.new.items ≡ as_entries rows.old.items
+            ++ units_in (rows_of commodity.now self.now)) }
         ensures memory { OnErr result (rows_of commodity.now self.now ≢ []) }
     {
         list_plain(self.plain, commodity, rows)?;
@@ -395,7 +411,8 @@ fn list_plain(
     commodity: &Commodity,
     rows: &mut Vec<(Commodity, Option<LotKey>, Units)>,
 ) -> Result<(), AllocError>
-    ensures all { OnOk result (as_entries rows.new.items ≡ as_entries rows.old.items ++ units_in (plain_rows commodity.now units)) }
+    ensures all { OnOk result (as_entries rows.new.items ≡ as_entries rows.old.items
+        ++ units_in (plain_rows commodity.now units)) }
     ensures memory { OnErr result (plain_rows commodity.now units ≢ []) }
 {
     if units.mantissa() != 0 {
@@ -418,9 +435,11 @@ fn set(
     requires none_empty { NoneIsEmpty held.old.entries }
     ensures holdings { AreHoldings held.new.entries }
     ensures none_empty { NoneIsEmpty held.new.entries }
-    ensures ok { OnOk result (ChangesPosition held.old.entries held.new.entries (commodity.now, option_copied key.entry)
+    ensures ok { OnOk result
+        (ChangesPosition held.old.entries held.new.entries (commodity.now, option_copied key.entry)
         (kept_at (option_copied key.entry) units opening)) }
-    ensures memory { OnErr result (NeedsPosition held.old.entries (commodity.now, option_copied key.entry)) }
+    ensures memory { OnErr result
+        (NeedsPosition held.old.entries (commodity.now, option_copied key.entry)) }
     ensures some { OnErr result (units ≢ pos 0) }
     ensures err { OnErr result (AreAlike held.old.entries held.new.entries) }
 {

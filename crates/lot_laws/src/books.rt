@@ -130,7 +130,8 @@ pub fn the_cost_of_lots_is_the_weight_of_their_postings()
 pub fn the_legs_of_a_sale_add_up_to_its_units()
     ensures { (line : Line) (booked : Booked) → IsBooked line booked → booked.reduces ≡ true
         → (lots : List (LotKey × ℤ)) × AreLegsOf line.amount.units lots
-        × (booked.legs ≡ legs_at_lots line.entry line.place line.account line.amount.commodity 0 lots) }
+        × (booked.legs
+        ≡ legs_at_lots line.entry line.place line.account line.amount.commodity 0 lots) }
 {}
 
 /// In every book, what was bought into a lot and what was sold of it, with its sign, add up to what is left of it. All three

@@ -150,7 +150,8 @@ fn every_currency_allowed(view: &View, postings: &[Posting]) -> Result<(), Refus
 
 /// Returns whether the account of a posting was opened with other currencies than the commodity of its amount.
 fn bars(view: &View, posting: &Posting) -> bool
-    ensures { result ≡ bars_amount ((known view.now).standing posting.now.account) posting.now.amount }
+    ensures { result
+        ≡ bars_amount ((known view.now).standing posting.now.account) posting.now.amount }
 {
     match (view.standing(&posting.account), &posting.amount) {
         (Some(standing), Some(amount)) => !standing.allowed.allows(&amount.commodity),
@@ -238,8 +239,10 @@ fn dates_back(view: &View, day: Day, posting: &Posting) -> bool
 /// there is one.
 pub(crate) fn few_lots(view: &View, draft: &Draft, postings: &[Posting]) -> Result<(), Refusal>
     requires { ListsTally (known_with_openings view.now) draft.now.tally }
-    ensures { MatchResult result (λ _. too_many_lots (known view.now) draft.now.tally.legs postings.now ≡ None)
-        (λ refusal. too_many_lots (known view.now) draft.now.tally.legs postings.now ≡ Some refusal) }
+    ensures { MatchResult result
+        (λ _. too_many_lots (known view.now) draft.now.tally.legs postings.now ≡ None)
+        (λ refusal.
+        too_many_lots (known view.now) draft.now.tally.legs postings.now ≡ Some refusal) }
 {
     match postings
         .iter()
@@ -253,7 +256,8 @@ pub(crate) fn few_lots(view: &View, draft: &Draft, postings: &[Posting]) -> Resu
 /// Returns whether a posting has braces, and its account holds too many lots of its commodity after all legs.
 fn holds_too_many(view: &View, draft: &Draft, posting: &Posting) -> bool
     requires { ListsTally (known_with_openings view.now) draft.now.tally }
-    ensures { result ≡ holds_too_many (with_legs posting.now.account ((known view.now).held posting.now.account) draft.now.tally.legs) posting.now.amount }
+    ensures { result ≡ holds_too_many (with_legs posting.now.account
+        ((known view.now).held posting.now.account) draft.now.tally.legs) posting.now.amount }
 {
     match &posting.amount {
         Some(amount) if amount.cost.is_some() => {

@@ -175,10 +175,12 @@ fn decide_transaction(
 
 /// Makes the checks that come before a transaction is booked, and returns its elided posting, if it has one.
 fn check_first<'a>(view: &View, transaction: &'a Transaction) -> Result<Option<Elided<'a>>, Refusal>
-    ensures passed { IsOk result → first_of (first_conditions (known view.now) transaction.now) ≡ None }
+    ensures passed { IsOk result
+        → first_of (first_conditions (known view.now) transaction.now) ≡ None }
     ensures few { IsOk result → length transaction.now.postings ≤ most_postings }
     ensures elided { IfOk result (λ elided. IsElided elided transaction.now) }
-    ensures refused { IfErr result (λ refusal. first_of (first_conditions (known view.now) transaction.now) ≡ Some refusal) }
+    ensures refused { IfErr result
+        (λ refusal. first_of (first_conditions (known view.now) transaction.now) ≡ Some refusal) }
 {
     let postings = transaction.postings.as_slice();
     every_account_fits(view, postings, transaction.day)?;
@@ -199,14 +201,19 @@ fn conclude(
     requires few { length transaction.now.postings ≤ most_postings }
     requires elided { IsElided elided transaction.now }
     requires lists { ListsTally (known_with_openings view.now) draft.tally }
-    ensures passed { IsOk result → first_of (conditions_on (known view.now) transaction.now draft.tally.legs draft.residuals) ≡ None }
-    ensures legs { IfOk result (λ change. change.legs ≡ legs_with_fill (known view.now) transaction.now draft.tally.legs draft.residuals) }
+    ensures passed { IsOk result → first_of
+        (conditions_on (known view.now) transaction.now draft.tally.legs draft.residuals) ≡ None }
+    ensures legs { IfOk result (λ change. change.legs
+        ≡ legs_with_fill (known view.now) transaction.now draft.tally.legs draft.residuals) }
     ensures sales { IfOk result (λ change. change.sales ≡ draft.sales) }
-    ensures positions { IfOk result (λ change. ListsSums (known view.now) change.legs change.positions.entries) }
+    ensures positions { IfOk result
+        (λ change. ListsSums (known view.now) change.legs change.positions.entries) }
     ensures openings { IfOk result (λ change.
         ListsOpened (known view.now) change.legs change.openings) }
-    ensures heads { IfOk result (λ change. ListsHeads (TransactionOf transaction.now) change.heads) }
-    ensures stops { IfErr result (λ stop. Stops (first_of (conditions_on (known view.now) transaction.now draft.tally.legs draft.residuals)) stop) }
+    ensures heads { IfOk result
+        (λ change. ListsHeads (TransactionOf transaction.now) change.heads) }
+    ensures stops { IfErr result (λ stop. Stops (first_of
+        (conditions_on (known view.now) transaction.now draft.tally.legs draft.residuals)) stop) }
     ensures memory { IsErrOf result Memory
         → EndMayLackMemory (known view.now) transaction.now draft.tally.legs draft.residuals }
 {
@@ -230,11 +237,14 @@ fn take_up(
     requires few { length transaction.now.postings ≤ most_postings }
     requires elided { IsElided elided transaction.now }
     requires lists { ListsTally (known_with_openings view.now) draft.old.tally }
-    ensures passed { IsOk result → first_of (residual_conditions (known view.now) transaction.now draft.old.tally.legs draft.old.residuals) ≡ None }
-    ensures legs { OnOk result (draft.new.tally.legs ≡ legs_with_fill (known view.now) transaction.now draft.old.tally.legs draft.old.residuals) }
+    ensures passed { IsOk result → first_of (residual_conditions
+        (known view.now) transaction.now draft.old.tally.legs draft.old.residuals) ≡ None }
+    ensures legs { OnOk result (draft.new.tally.legs ≡ legs_with_fill
+        (known view.now) transaction.now draft.old.tally.legs draft.old.residuals) }
     ensures lists { OnOk result (ListsTally (known_with_openings view.now) draft.new.tally) }
     ensures sales { OnOk result (draft.new.sales ≡ draft.old.sales) }
-    ensures stops { IfErr result (λ stop. Stops (first_of (residual_conditions (known view.now) transaction.now draft.old.tally.legs draft.old.residuals)) stop) }
+    ensures stops { IfErr result (λ stop. Stops (first_of (residual_conditions
+        (known view.now) transaction.now draft.old.tally.legs draft.old.residuals)) stop) }
     ensures memory { IsErrOf result Memory
         → FillMayLackMemory (known view.now) (elided_postings 1 transaction.now.postings)
         draft.old.residuals }

@@ -30,14 +30,17 @@ pub(crate) fn fill(
     requires few { elided.0 ≤ most_postings }
     requires lists { ListsTally (known_with_openings view.now) draft.old.tally }
     ensures exact { OnOk result (inexact_fill (elided.entry ∷ []) draft.old.residuals ≡ None) }
-    ensures allowed { OnOk result (fill_not_allowed (known view.now) (elided.entry ∷ []) draft.old.residuals ≡ None) }
-    ensures in_range { OnOk result (fill_out_of_range (known view.now) (elided.entry ∷ []) draft.old.tally.legs
+    ensures allowed { OnOk result
+        (fill_not_allowed (known view.now) (elided.entry ∷ []) draft.old.residuals ≡ None) }
+    ensures in_range { OnOk result
+        (fill_out_of_range (known view.now) (elided.entry ∷ []) draft.old.tally.legs
         (fill_of (suc (known view.now).entries) (elided.entry ∷ []) draft.old.residuals) ≡ None) }
     ensures legs { OnOk result (draft.new.tally.legs ≡ draft.old.tally.legs
         ++ fill_of (suc (known view.now).entries) (elided.entry ∷ []) draft.old.residuals) }
     ensures lists { OnOk result (ListsTally (known_with_openings view.now) draft.new.tally) }
     ensures sales { OnOk result (draft.new.sales ≡ draft.old.sales) }
-    ensures stops { IfErr result (λ stop. Stops (option_or (inexact_fill (elided.entry ∷ []) draft.old.residuals)
+    ensures stops { IfErr result
+        (λ stop. Stops (option_or (inexact_fill (elided.entry ∷ []) draft.old.residuals)
         (option_or (fill_not_allowed (known view.now) (elided.entry ∷ []) draft.old.residuals)
         (fill_out_of_range (known view.now) (elided.entry ∷ []) draft.old.tally.legs
         (fill_of (suc (known view.now).entries) (elided.entry ∷ []) draft.old.residuals)))) stop) }

@@ -95,7 +95,8 @@ fn find_currencies<D: Queryable>(
 
 /// Returns the commodities of rows, in their order.
 fn commodities(alloc: Global, rows: &[AllowedRow]) -> Result<Vec<Commodity>, AllocError>
-    ensures { IfOk result (λ found. found.items ≡ map (λ (row : AllowedRow). row.commodity) rows.now) }
+    ensures { IfOk result
+        (λ found. found.items ≡ map (λ (row : AllowedRow). row.commodity) rows.now) }
 {
     let mut found = Vec::new(alloc);
     for row in rows {

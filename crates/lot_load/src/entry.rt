@@ -32,7 +32,8 @@ pub(crate) fn find_text<D: Queryable>(
     key: &Key,
 ) -> Result<Option<String>, Fault>
     ensures same_reference { D.reference conn.new ≡ D.reference conn.old }
-    ensures tells { Tells (λ text entries. option_map string_bytes text ≡ text_under entries key.now)
+    ensures tells { Tells
+        (λ text entries. option_map string_bytes text ≡ text_under entries key.now)
         (D.shown conn.old) (D.shown conn.new) result }
     ensures damage { FindsDamage key.now (D.shown conn.old) (D.shown conn.new) result }
     ensures text { FindsText (λ text. option_map string_bytes text) key.now

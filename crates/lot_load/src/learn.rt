@@ -25,7 +25,8 @@ pub(crate) fn learn_lacking<D: Queryable>(
 ) -> Result<(), Fault>
     requires { HasCleanDisk (D.shown conn.old) → IsTrue (D.shown conn.old).is_open }
     ensures same_reference { D.reference conn.new ≡ D.reference conn.old }
-    ensures tells { Tells (λ _ entries. Keeps kept.old entries → Covers touched entries kept.old kept.new)
+    ensures tells { Tells
+        (λ _ entries. Keeps kept.old entries → Covers touched entries kept.old kept.new)
         (D.shown conn.old) (D.shown conn.new) result }
 {
     let lacking = lacking(touched, &kept.whole);

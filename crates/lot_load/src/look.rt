@@ -36,7 +36,8 @@ pub fn look_on<D: Queryable>(
 ) -> Result<Kept, Fault>
     ensures same_reference { D.reference conn.new ≡ D.reference conn.old }
     ensures looks { Answers layout
-        (λ now tables. (entries : List Entry) → IsBook entries → StandFor tables entries → IsOf kept entries
+        (λ now tables. (entries : List Entry) → IsBook entries → StandFor tables entries
+        → IsOf kept entries
         → Keeps now entries
         × AgreesWithOpenings (seen_with_openings now) (facts_with_openings entries key.now)
         command.now)

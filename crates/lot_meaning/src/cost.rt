@@ -32,7 +32,8 @@ impl<'a> CheckedCost<'a> {
         requires { FitsCost (cost_seen form.now) }
         ensures means { IfOk result (λ cost. MeansCost (cost_seen form.now) (cost_of cost)) }
         ensures inside { OnOk result (AreInside (cost_items (cost_seen form.now))) }
-        ensures outside { IfErr result (λ fault. FirstOutside (cost_items (cost_seen form.now)) fault) }
+        ensures outside { IfErr result
+            (λ fault. FirstOutside (cost_items (cost_seen form.now)) fault) }
     {
         match form {
             CostForm::Each(parts) => match Given::new(names, parts) {
@@ -56,9 +57,12 @@ impl<'a> CheckedCost<'a> {
         form: &Option<CostForm<'_, 'a>>,
     ) -> Result<Option<CheckedCost<'a>>, ValueFault>
         requires { FitsPerhaps FitsCost (option_map cost_seen form.now) }
-        ensures means { IfOk result (λ cost. MeansPerhaps MeansCost (option_map cost_seen form.now) (option_map cost_of cost)) }
-        ensures inside { OnOk result (AreInside (listed_by cost_items (option_map cost_seen form.now))) }
-        ensures outside { IfErr result (λ fault. FirstOutside (listed_by cost_items (option_map cost_seen form.now)) fault) }
+        ensures means { IfOk result (λ cost.
+            MeansPerhaps MeansCost (option_map cost_seen form.now) (option_map cost_of cost)) }
+        ensures inside { OnOk result
+            (AreInside (listed_by cost_items (option_map cost_seen form.now))) }
+        ensures outside { IfErr result
+            (λ fault. FirstOutside (listed_by cost_items (option_map cost_seen form.now)) fault) }
     {
         match form {
             Some(cost) => match CheckedCost::new(names, cost) {

@@ -37,8 +37,10 @@ impl<'w, 'a> CurrencyParts<'w, 'a> {
     /// Returns the currencies that the parts mean. The error is `BadName`, exactly where one of them means none.
     pub(crate) fn new(words: &'w [&'a str]) -> Result<CurrencyParts<'w, 'a>, ValueFault>
         requires { length words.now ≤ most_currencies }
-        ensures means { IfOk result (λ currencies. AllZip (Names is_commodity) (map seen_text words.now) currencies) }
-        ensures outside { IfErr result (λ fault. FirstOutside (flat_map (λ c. commodity_item c ∷ []) (map seen_text words.now)) fault) }
+        ensures means { IfOk result
+            (λ currencies. AllZip (Names is_commodity) (map seen_text words.now) currencies) }
+        ensures outside { IfErr result (λ fault.
+            FirstOutside (flat_map (λ c. commodity_item c ∷ []) (map seen_text words.now)) fault) }
     {
         if !are_commodities(words) {
             return Err(ValueFault::BadName);

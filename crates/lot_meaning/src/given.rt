@@ -70,7 +70,8 @@ impl<'a, N: CostNumber> Given<'a, N> {
     #[tactic(auto, using(crate::proofs::GivenLemmas::means_alone, crate::proofs::GivenLemmas::inside_alone, crate::proofs::GivenLemmas::outside_alone))]
     pub(crate) fn new(names: &KnownNames, parts: &Parts<'a>) -> Result<Given<'a, N>, ValueFault>
         ensures means { IfOk result (λ given. MeansGiven N.Means (parts_seen parts.now) given) }
-        ensures inside { OnOk result (AreInside (flat_map (part_items N.item) (parts_seen parts.now))) }
+        ensures inside { OnOk result
+            (AreInside (flat_map (part_items N.item) (parts_seen parts.now))) }
         ensures outside { IfErr result (λ fault.
             FirstOutside (flat_map (part_items N.item) (parts_seen parts.now)) fault) }
     {
@@ -84,7 +85,8 @@ impl<'a, N: CostNumber> Given<'a, N> {
     #[tactic(auto, using(crate::proofs::GivenLemmas::both_inside_listed, crate::proofs::GivenLemmas::outside_before_listed, crate::proofs::GivenLemmas::outside_behind_listed))]
     fn by_all(names: &KnownNames, parts: &Parts<'a>) -> Result<Given<'a, N>, ValueFault>
         ensures means { IfOk result (λ given. MeansGiven N.Means (parts_seen parts.now) given) }
-        ensures inside { OnOk result (AreInside (flat_map (part_items N.item) (parts_seen parts.now))) }
+        ensures inside { OnOk result
+            (AreInside (flat_map (part_items N.item) (parts_seen parts.now))) }
         ensures outside { IfErr result (λ fault.
             FirstOutside (flat_map (part_items N.item) (parts_seen parts.now)) fault) }
     {

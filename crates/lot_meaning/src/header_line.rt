@@ -24,9 +24,12 @@ use lot_form::{DirectiveForm, HeaderForm, NotesForm};
 /// The error is the fault of the first part, from left to right, that is outside its rule. Where all parts are within their
 /// rules, it is `Memory`: no memory for the names and notes.
 pub fn command(names: &mut KnownNames, form: &HeaderForm<'_, '_>) -> Result<Command, MeaningFault>
-    ensures means { IfOk result (λ command. MeansHeader form.now.day.now (directive_seen form.now.directive) command) }
-    ensures outside { (fault : ValueFault) → IsErrOf result (Outside fault) → FirstOutside (header_items form.now.day.now (directive_seen form.now.directive)) fault }
-    ensures memory { IsErrOf result Memory → AreInside (header_items form.now.day.now (directive_seen form.now.directive)) }
+    ensures means { IfOk result
+        (λ command. MeansHeader form.now.day.now (directive_seen form.now.directive) command) }
+    ensures outside { (fault : ValueFault) → IsErrOf result (Outside fault)
+        → FirstOutside (header_items form.now.day.now (directive_seen form.now.directive)) fault }
+    ensures memory { IsErrOf result Memory
+        → AreInside (header_items form.now.day.now (directive_seen form.now.directive)) }
 {
     let day = day(form.day)?;
     directive(names, day, &form.directive)
@@ -38,8 +41,10 @@ fn directive(
     day: Day,
     form: &DirectiveForm<'_, '_>,
 ) -> Result<Command, MeaningFault>
-    ensures means { IfOk result (λ command. (when : List ℕ) → MeansDay when day → MeansHeader when (directive_seen form.now) command) }
-    ensures refused { IfErr result (λ fault. IsRefusal (directive_items (directive_seen form.now)) fault) }
+    ensures means { IfOk result (λ command. (when : List ℕ) → MeansDay when day
+        → MeansHeader when (directive_seen form.now) command) }
+    ensures refused { IfErr result
+        (λ fault. IsRefusal (directive_items (directive_seen form.now)) fault) }
 {
     match form {
         DirectiveForm::Opening(account, currencies, method) => {
@@ -62,8 +67,12 @@ fn opening(
     method: &Option<&str>,
 ) -> Result<Command, MeaningFault>
     requires { length currencies.now ≤ most_currencies }
-    ensures means { let directive = opening account.now (map seen_text currencies.now) (option_map seen_text method.now) in IfOk result (λ command. (when : List ℕ) → MeansDay when day → MeansHeader when directive command) }
-    ensures refused { let directive = opening account.now (map seen_text currencies.now) (option_map seen_text method.now) in IfErr result (λ fault. IsRefusal (directive_items directive) fault) }
+    ensures means { let directive = opening account.now (map seen_text currencies.now)
+        (option_map seen_text method.now) in IfOk result
+        (λ command. (when : List ℕ) → MeansDay when day → MeansHeader when directive command) }
+    ensures refused { let directive = opening account.now (map seen_text currencies.now)
+        (option_map seen_text method.now) in
+        IfErr result (λ fault. IsRefusal (directive_items directive) fault) }
 {
     let account = AccountPart::new(&names.accounts, account)?;
     let currencies = CurrencyParts::new(currencies)?;
@@ -79,7 +88,8 @@ fn opening(
 /// Returns the method that a part means, STRICT where there is none. The error is `BadName`, exactly where it means none.
 fn method_of(part: &Option<&str>) -> Result<Method, ValueFault>
     ensures means { IfOk result (λ method. MeansMethod (option_map seen_text part.now) method) }
-    ensures outside { IfErr result (λ fault. FirstOutside (listed_by (λ m. method_item m ∷ []) (option_map seen_text part.now)) fault) }
+    ensures outside { IfErr result (λ fault.
+        FirstOutside (listed_by (λ m. method_item m ∷ []) (option_map seen_text part.now)) fault) }
 {
     let Some(word) = part else {
         return Ok(Method::Strict);
@@ -93,8 +103,10 @@ fn method_of(part: &Option<&str>) -> Result<Method, ValueFault>
 /// Returns a closing on that day.
 #[tactic(auto, using(crate::proofs::ItemLemmas::outside_first, crate::proofs::ItemLemmas::outside_later))]
 fn closing(names: &mut KnownNames, day: Day, account: &str) -> Result<Command, MeaningFault>
-    ensures means { IfOk result (λ command. (when : List ℕ) → MeansDay when day → MeansHeader when (closing account.now) command) }
-    ensures refused { IfErr result (λ fault. IsRefusal (directive_items (closing account.now)) fault) }
+    ensures means { IfOk result (λ command. (when : List ℕ) → MeansDay when day
+        → MeansHeader when (closing account.now) command) }
+    ensures refused { IfErr result
+        (λ fault. IsRefusal (directive_items (closing account.now)) fault) }
 {
     let account = AccountPart::new(&names.accounts, account)?;
     Ok(Command::Closing(Closing {
@@ -106,8 +118,10 @@ fn closing(names: &mut KnownNames, day: Day, account: &str) -> Result<Command, M
 /// Returns a declaring on that day.
 #[tactic(auto, using(crate::proofs::ItemLemmas::outside_first, crate::proofs::ItemLemmas::outside_later))]
 fn declaring(names: &mut KnownNames, day: Day, commodity: &str) -> Result<Command, MeaningFault>
-    ensures means { IfOk result (λ command. (when : List ℕ) → MeansDay when day → MeansHeader when (declaring commodity.now) command) }
-    ensures refused { IfErr result (λ fault. IsRefusal (directive_items (declaring commodity.now)) fault) }
+    ensures means { IfOk result (λ command. (when : List ℕ) → MeansDay when day
+        → MeansHeader when (declaring commodity.now) command) }
+    ensures refused { IfErr result
+        (λ fault. IsRefusal (directive_items (declaring commodity.now)) fault) }
 {
     let commodity = CommodityPart::new(&names.commodities, commodity)?;
     Ok(Command::Declaring(Declaring {
@@ -125,8 +139,10 @@ fn quoting(
     rate_part: &str,
     quote: &str,
 ) -> Result<Command, MeaningFault>
-    ensures means { IfOk result (λ command. (when : List ℕ) → MeansDay when day → MeansHeader when (quoting base.now rate_part.now quote.now) command) }
-    ensures refused { IfErr result (λ fault. IsRefusal (directive_items (quoting base.now rate_part.now quote.now)) fault) }
+    ensures means { IfOk result (λ command. (when : List ℕ) → MeansDay when day
+        → MeansHeader when (quoting base.now rate_part.now quote.now) command) }
+    ensures refused { IfErr result
+        (λ fault. IsRefusal (directive_items (quoting base.now rate_part.now quote.now)) fault) }
 {
     let base = CommodityPart::new(&names.commodities, base)?;
     let rate = rate(rate_part)?;
@@ -147,8 +163,10 @@ fn transaction(
     flag: Flag,
     notes: &Option<NotesForm<'_>>,
 ) -> Result<Command, MeaningFault>
-    ensures means { IfOk result (λ command. (when : List ℕ) → MeansDay when day → MeansHeader when (transaction flag (option_map notes_seen notes.now)) command) }
-    ensures refused { IfErr result (λ fault. IsRefusal (directive_items (transaction flag (option_map notes_seen notes.now))) fault) }
+    ensures means { IfOk result (λ command. (when : List ℕ) → MeansDay when day
+        → MeansHeader when (transaction flag (option_map notes_seen notes.now)) command) }
+    ensures refused { IfErr result (λ fault.
+        IsRefusal (directive_items (transaction flag (option_map notes_seen notes.now))) fault) }
 {
     let narration = match notes {
         Some(notes) => Some(NotesPart::new(notes)?.keep(names)?),

@@ -9,16 +9,21 @@ ghost use Rattle.lot_meaning.specs.Meaning.{AreInside, FirstOutside, Item, Means
 
 /// A list of parts has a first one outside its rule, with one fault, or all of them are within their rules.
 pub fn parts_have_one_first_fault_or_none()
-    ensures some { (items : List Item) → AreInside items ⊎ ((fault : ValueFault) × FirstOutside items fault) }
-    ensures one { (items : List Item) (a b : ValueFault) → FirstOutside items a → FirstOutside items b → a ≡ b }
-    ensures not_both { (items : List Item) (fault : ValueFault) → AreInside items → FirstOutside items fault → ⊥ }
+    ensures some { (items : List Item)
+        → AreInside items ⊎ ((fault : ValueFault) × FirstOutside items fault) }
+    ensures one { (items : List Item) (a b : ValueFault) → FirstOutside items a
+        → FirstOutside items b → a ≡ b }
+    ensures not_both { (items : List Item) (fault : ValueFault) → AreInside items
+        → FirstOutside items fault → ⊥ }
 {}
 
 /// A written posting means at most one posting. A posting that has its form means one exactly where all its parts are within
 /// their rules.
 pub fn a_posting_means_one_posting()
-    ensures one { (written : WrittenPosting) (a b : Posting) → MeansPosting written a → MeansPosting written b → a ≡ b }
-    ensures some { (written : WrittenPosting) → FitsPerhaps (λ (a : WrittenAmount). FitsPerhaps FitsCost a.cost) written.amount
+    ensures one { (written : WrittenPosting) (a b : Posting) → MeansPosting written a
+        → MeansPosting written b → a ≡ b }
+    ensures some { (written : WrittenPosting)
+        → FitsPerhaps (λ (a : WrittenAmount). FitsPerhaps FitsCost a.cost) written.amount
         → AreInside (posting_items written) → (posting : Posting) × MeansPosting written posting }
     ensures inside { (written : WrittenPosting) (posting : Posting)
         → FitsPerhaps (λ (a : WrittenAmount). FitsPerhaps FitsCost a.cost) written.amount
@@ -27,7 +32,10 @@ pub fn a_posting_means_one_posting()
 
 /// A day and a directive mean at most one command. They mean one exactly where all their parts are within their rules.
 pub fn a_header_means_one_command()
-    ensures one { (day : List ℕ) (directive : Directive) (a b : Command) → MeansHeader day directive a → MeansHeader day directive b → a ≡ b }
-    ensures some { (day : List ℕ) (directive : Directive) → AreInside (header_items day directive) → (command : Command) × MeansHeader day directive command }
-    ensures inside { (day : List ℕ) (directive : Directive) (command : Command) → MeansHeader day directive command → AreInside (header_items day directive) }
+    ensures one { (day : List ℕ) (directive : Directive) (a b : Command)
+        → MeansHeader day directive a → MeansHeader day directive b → a ≡ b }
+    ensures some { (day : List ℕ) (directive : Directive) → AreInside (header_items day directive)
+        → (command : Command) × MeansHeader day directive command }
+    ensures inside { (day : List ℕ) (directive : Directive) (command : Command)
+        → MeansHeader day directive command → AreInside (header_items day directive) }
 {}

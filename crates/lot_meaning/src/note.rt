@@ -92,8 +92,10 @@ impl<'a> NotesPart<'a> {
     /// Returns the notes that the parts mean. The error is `BadName`, exactly where one of them means none.
     #[tactic(auto, using(crate::proofs::ItemLemmas::outside_first, crate::proofs::ItemLemmas::outside_later))]
     pub(crate) fn new(notes: &NotesForm<'a>) -> Result<NotesPart<'a>, ValueFault>
-        ensures means { IfOk result (λ parts. MeansPerhaps (Quotes is_note) (notes_seen notes.now).0 parts.payee × Quotes is_note (notes_seen notes.now).1 parts.narration) }
-        ensures outside { IfErr result (λ fault. FirstOutside (note_items (notes_seen notes.now)) fault) }
+        ensures means { IfOk result (λ parts. MeansPerhaps (Quotes is_note) (notes_seen notes.now).0
+            parts.payee × Quotes is_note (notes_seen notes.now).1 parts.narration) }
+        ensures outside { IfErr result
+            (λ fault. FirstOutside (note_items (notes_seen notes.now)) fault) }
     {
         let payee = match notes.payee {
             Some(payee) => Some(NotePart::new(payee)?),
@@ -153,7 +155,8 @@ fn is_plain(part: &str) -> bool
 
 /// Returns the text of which this is the escape, or `None` where there is none or it is longer than a note may be.
 fn unescaped(escape: &str) -> Option<NoteText>
-    ensures { MatchOption result ((text : List ℕ) → escape.now ≡ escaped text → length text ≤ longest_note → ⊥) (λ text. escape.now ≡ escaped text.bytes) }
+    ensures { MatchOption result ((text : List ℕ) → escape.now ≡ escaped text
+        → length text ≤ longest_note → ⊥) (λ text. escape.now ≡ escaped text.bytes) }
 {
     let mut text = NoteText::new();
     let mut characters = escape.chars();
@@ -168,7 +171,9 @@ fn unescaped(escape: &str) -> Option<NoteText>
 
 /// Returns the character that this one stands for, with what follows it, or `None` where no escape begins so.
 fn meant(character: char, rest: &mut Chars<'_>) -> Option<char>
-    ensures { let written = encode_utf8 character ++ chars_rest rest.old in MatchOption result ((text : List ℕ) → written ≡ escaped text → ⊥) (λ c. written ≡ escaped (encode_utf8 c) ++ chars_rest rest.new) }
+    ensures { let written = encode_utf8 character ++ chars_rest rest.old in
+        MatchOption result ((text : List ℕ) → written ≡ escaped text → ⊥)
+        (λ c. written ≡ escaped (encode_utf8 c) ++ chars_rest rest.new) }
 {
     match character {
         '"' => None,

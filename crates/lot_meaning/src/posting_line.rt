@@ -22,9 +22,11 @@ use std::alloc::AllocError;
 /// The error is the fault of the first part, from left to right, that is outside its rule. Where all parts are within their
 /// rules, it is `Memory`: no memory for the names.
 pub fn posting(names: &mut KnownNames, form: &PostingForm<'_, '_>) -> Result<Posting, MeaningFault>
-    requires fits { FitsPerhaps (λ (a : WrittenAmount). FitsPerhaps FitsCost a.cost) (posting_seen form.now).amount }
+    requires fits { FitsPerhaps
+        (λ (a : WrittenAmount). FitsPerhaps FitsCost a.cost) (posting_seen form.now).amount }
     ensures means { IfOk result (λ posting. MeansPosting (posting_seen form.now) posting) }
-    ensures outside { (fault : ValueFault) → IsErrOf result (Outside fault) → FirstOutside (posting_items (posting_seen form.now)) fault }
+    ensures outside { (fault : ValueFault) → IsErrOf result (Outside fault)
+        → FirstOutside (posting_items (posting_seen form.now)) fault }
     ensures memory { IsErrOf result Memory → AreInside (posting_items (posting_seen form.now)) }
 {
     let checked = CheckedPosting::new(names, form)?;
@@ -42,10 +44,13 @@ impl<'a> CheckedPosting<'a> {
     /// Returns what a posting means. The error is the fault of its first part that is outside its rule.
     #[tactic(auto, using(crate::proofs::ItemLemmas::outside_first, crate::proofs::ItemLemmas::outside_later))]
     fn new(names: &KnownNames, form: &PostingForm<'_, 'a>) -> Result<CheckedPosting<'a>, ValueFault>
-        requires { FitsPerhaps (λ (a : WrittenAmount). FitsPerhaps FitsCost a.cost) (posting_seen form.now).amount }
-        ensures means { IfOk result (λ posting. MeansPosting (posting_seen form.now) (posting_of posting)) }
+        requires { FitsPerhaps
+            (λ (a : WrittenAmount). FitsPerhaps FitsCost a.cost) (posting_seen form.now).amount }
+        ensures means { IfOk result
+            (λ posting. MeansPosting (posting_seen form.now) (posting_of posting)) }
         ensures inside { OnOk result (AreInside (posting_items (posting_seen form.now))) }
-        ensures outside { IfErr result (λ fault. FirstOutside (posting_items (posting_seen form.now)) fault) }
+        ensures outside { IfErr result
+            (λ fault. FirstOutside (posting_items (posting_seen form.now)) fault) }
     {
         Ok(CheckedPosting {
             account: AccountPart::new(&names.accounts, form.account)?,
@@ -82,9 +87,11 @@ impl<'a> CheckedAmount<'a> {
     #[tactic(auto, using(crate::proofs::ItemLemmas::outside_first, crate::proofs::ItemLemmas::outside_later))]
     fn new(names: &KnownNames, form: &AmountForm<'_, 'a>) -> Result<CheckedAmount<'a>, ValueFault>
         requires { FitsPerhaps FitsCost (option_map cost_seen form.now.cost) }
-        ensures means { IfOk result (λ amount. MeansAmount (amount_seen form.now) (amount_of amount)) }
+        ensures means { IfOk result
+            (λ amount. MeansAmount (amount_seen form.now) (amount_of amount)) }
         ensures inside { OnOk result (AreInside (amount_items (amount_seen form.now))) }
-        ensures outside { IfErr result (λ fault. FirstOutside (amount_items (amount_seen form.now)) fault) }
+        ensures outside { IfErr result
+            (λ fault. FirstOutside (amount_items (amount_seen form.now)) fault) }
     {
         Ok(CheckedAmount {
             units: units(form.units)?,
@@ -99,10 +106,14 @@ impl<'a> CheckedAmount<'a> {
         names: &KnownNames,
         form: &Option<AmountForm<'_, 'a>>,
     ) -> Result<Option<CheckedAmount<'a>>, ValueFault>
-        requires { FitsPerhaps (λ (a : WrittenAmount). FitsPerhaps FitsCost a.cost) (option_map amount_seen form.now) }
-        ensures means { IfOk result (λ amount. MeansPerhaps MeansAmount (option_map amount_seen form.now) (option_map amount_of amount)) }
-        ensures inside { OnOk result (AreInside (listed_by amount_items (option_map amount_seen form.now))) }
-        ensures outside { IfErr result (λ fault. FirstOutside (listed_by amount_items (option_map amount_seen form.now)) fault) }
+        requires { FitsPerhaps
+            (λ (a : WrittenAmount). FitsPerhaps FitsCost a.cost) (option_map amount_seen form.now) }
+        ensures means { IfOk result (λ amount. MeansPerhaps MeansAmount
+            (option_map amount_seen form.now) (option_map amount_of amount)) }
+        ensures inside { OnOk result
+            (AreInside (listed_by amount_items (option_map amount_seen form.now))) }
+        ensures outside { IfErr result (λ fault.
+            FirstOutside (listed_by amount_items (option_map amount_seen form.now)) fault) }
     {
         match form {
             Some(amount) => match CheckedAmount::new(names, amount) {

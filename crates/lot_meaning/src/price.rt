@@ -31,7 +31,8 @@ impl<'a> CheckedPrice<'a> {
     ) -> Result<CheckedPrice<'a>, ValueFault>
         ensures means { IfOk result (λ price. MeansPrice (price_seen form.now) (price_of price)) }
         ensures inside { OnOk result (AreInside (price_items (price_seen form.now))) }
-        ensures outside { IfErr result (λ fault. FirstOutside (price_items (price_seen form.now)) fault) }
+        ensures outside { IfErr result
+            (λ fault. FirstOutside (price_items (price_seen form.now)) fault) }
     {
         match form {
             PriceForm::Each(number, currency) => Ok(CheckedPrice::Each(
@@ -50,9 +51,12 @@ impl<'a> CheckedPrice<'a> {
         names: &KnownNames,
         form: &Option<PriceForm<'a>>,
     ) -> Result<Option<CheckedPrice<'a>>, ValueFault>
-        ensures means { IfOk result (λ price. MeansPerhaps MeansPrice (option_map price_seen form.now) (option_map price_of price)) }
-        ensures inside { OnOk result (AreInside (listed_by price_items (option_map price_seen form.now))) }
-        ensures outside { IfErr result (λ fault. FirstOutside (listed_by price_items (option_map price_seen form.now)) fault) }
+        ensures means { IfOk result (λ price.
+            MeansPerhaps MeansPrice (option_map price_seen form.now) (option_map price_of price)) }
+        ensures inside { OnOk result
+            (AreInside (listed_by price_items (option_map price_seen form.now))) }
+        ensures outside { IfErr result
+            (λ fault. FirstOutside (listed_by price_items (option_map price_seen form.now)) fault) }
     {
         match form {
             Some(price) => match CheckedPrice::new(names, price) {

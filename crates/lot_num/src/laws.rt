@@ -32,7 +32,8 @@ pub fn zero_weight() -> Wide
 
 /// Units have a rate for a total exactly where they come to the total at that rate.
 pub fn a_rate_for_each_unit_comes_to_the_total()
-    ensures { (units total : ℤ) (rate : ℕ) → (per_unit units total ≡ Some rate) ↔ IsPerUnit units total rate }
+    ensures { (units total : ℤ) (rate : ℕ)
+        → (per_unit units total ≡ Some rate) ↔ IsPerUnit units total rate }
 {}
 
 /// The texts that are read as numbers are those of the grammar. Each is cut into the parts that the grammar gives it,

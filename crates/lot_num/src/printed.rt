@@ -42,7 +42,8 @@ pub(crate) fn amount_text(
     decimals: Decimals,
 ) -> Result<String, AllocError>
     requires { decimals.scale ≤ 16 }
-    ensures { IfOk result (λ t. string_bytes t ≡ amount_text decimals.least decimals.scale mantissa) }
+    ensures { IfOk result
+        (λ t. string_bytes t ≡ amount_text decimals.least decimals.scale mantissa) }
 {
     let mut text = String::new(alloc);
     if mantissa < 0 {
@@ -55,7 +56,8 @@ pub(crate) fn amount_text(
 /// Appends the whole part of a magnitude, and the decimals that are shown of it.
 fn push_magnitude(text: &mut String, magnitude: u128, decimals: Decimals) -> Result<(), AllocError>
     requires { decimals.scale ≤ 16 }
-    ensures { OnOk result (string_bytes text.new ≡ string_bytes text.old ++ magnitude_text decimals.least decimals.scale magnitude) }
+    ensures { OnOk result (string_bytes text.new ≡ string_bytes text.old
+        ++ magnitude_text decimals.least decimals.scale magnitude) }
 {
     let one = decimals.one();
     let whole = magnitude / one;
@@ -66,7 +68,8 @@ fn push_magnitude(text: &mut String, magnitude: u128, decimals: Decimals) -> Res
 
 /// Appends a point and the decimals, or nothing where there are none.
 fn push_decimals(text: &mut String, digits: u64, places: usize) -> Result<(), AllocError>
-    ensures { OnOk result (string_bytes text.new ≡ string_bytes text.old ++ point_and (all_decimals places digits)) }
+    ensures { OnOk result
+        (string_bytes text.new ≡ string_bytes text.old ++ point_and (all_decimals places digits)) }
 {
     if places > 0 {
         write!(text, ".{digits:0places$}")?;
@@ -77,7 +80,8 @@ fn push_decimals(text: &mut String, digits: u64, places: usize) -> Result<(), Al
 /// Returns a fraction without the zeros at its end, but with no fewer than the least decimals: its digits, and
 /// how many decimals they are.
 fn shown(decimals: Decimals, fraction: u64) -> (u64, usize)
-    ensures { all_decimals result.1 result.0 ≡ shown_decimals decimals.least decimals.scale fraction }
+    ensures { all_decimals result.1 result.0
+        ≡ shown_decimals decimals.least decimals.scale fraction }
 {
     let mut digits = fraction;
     let mut places = decimals.scale;

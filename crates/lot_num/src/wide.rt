@@ -84,7 +84,8 @@ impl Wide {
     /// range of units.
     pub fn to_units(self) -> Option<Units>
         ensures some { IfSome result (λ units. self ≡ units *ℤ pos one) }
-        ensures every { (units : ℤ) → IsUnits units → self ≡ units *ℤ pos one → result ≡ Some units }
+        ensures every { (units : ℤ) → IsUnits units → self ≡ units *ℤ pos one
+            → result ≡ Some units }
     {
         if self.mantissa % 100_000_000 != 0 {
             return None;

@@ -41,7 +41,8 @@ impl PagedRow for EntryRow {
 
 /// Returns the next entries from a number on.
 fn entries_from<S: Alter>(conn: &mut Connection<S>, first: ValueRef<'_>) -> Result<Vec<Row>, Fault>
-    ensures pages { (n : ℤ) → owned first.entry ≡ Int n → PagesOf entry_cells (λ b. b.entry) entry_page_rows (filter (is_from (Int n)))
+    ensures pages { (n : ℤ) → owned first.entry ≡ Int n
+        → PagesOf entry_cells (λ b. b.entry) entry_page_rows (filter (is_from (Int n)))
         (state S.Store conn.old) (state S.Store conn.new) result }
 {
     ask(

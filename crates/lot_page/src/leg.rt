@@ -54,7 +54,8 @@ impl PagedRow for LegRow {
 
 /// Returns the next legs behind those of the posting of this one.
 fn behind_posting<S: Alter>(conn: &mut Connection<S>, row: &LegRow) -> Result<Vec<Row>, Fault>
-    ensures pages { PagesOf leg_cells (λ b. b.leg) page_rows (filter (is_past 2 (leg_cells row.now)))
+    ensures pages { PagesOf leg_cells
+        (λ b. b.leg) page_rows (filter (is_past 2 (leg_cells row.now)))
         (state S.Store conn.old) (state S.Store conn.new) result }
 {
     let rest = ask(

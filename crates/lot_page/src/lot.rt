@@ -96,7 +96,8 @@ fn behind<S: Alter>(
 ) -> Result<Vec<Row>, Fault>
     requires texts { AreBehind texts.now row.now }
     requires same { same ≤ 4 }
-    ensures pages { PagesOf lot_cells (λ b. b.lot) page_rows (filter (is_past (suc same) (lot_cells row.now)))
+    ensures pages { PagesOf lot_cells
+        (λ b. b.lot) page_rows (filter (is_past (suc same) (lot_cells row.now)))
         (state S.Store conn.old) (state S.Store conn.new) result }
 {
     let page = level(conn, row, texts, same)?;

@@ -61,7 +61,8 @@ fn behind_quote<S: Alter>(
 ) -> Result<Vec<Row>, Fault>
     requires base { base.now ≡ row.now.base ++ 0 ∷ [] }
     requires quote { quote.now ≡ row.now.quote ++ 0 ∷ [] }
-    ensures pages { PagesOf price_cells (λ b. b.price) page_rows (filter (is_past 2 (price_cells row.now)))
+    ensures pages { PagesOf price_cells
+        (λ b. b.price) page_rows (filter (is_past 2 (price_cells row.now)))
         (state S.Store conn.old) (state S.Store conn.new) result }
 {
     let rest = ask(

@@ -52,7 +52,8 @@ impl PagedRow for SaleRow {
 
 /// Returns the next sales of the entries from a number on.
 fn sales_from<S: Alter>(conn: &mut Connection<S>, first: ValueRef<'_>) -> Result<Vec<Row>, Fault>
-    ensures pages { (n : ℤ) → owned first.entry ≡ Int n → PagesOf sale_cells (λ b. b.sale) page_rows (filter (is_from (Int n)))
+    ensures pages { (n : ℤ) → owned first.entry ≡ Int n
+        → PagesOf sale_cells (λ b. b.sale) page_rows (filter (is_from (Int n)))
         (state S.Store conn.old) (state S.Store conn.new) result }
 {
     ask(

@@ -53,7 +53,8 @@ impl Residuals {
         requires room { AreWithin (most_postings - 1) self.old }
         ensures sum { OnOk result ((weights : List (List ℕ × ℤ)) → self.old ≡ residuals weights
             → self.new ≡ residuals (weights ++ weights_by amount.now.cost amount.now legs.now)) }
-        ensures within { OnOk result ((count : ℕ) → AreWithin count self.old → AreWithin (suc count) self.new) }
+        ensures within { OnOk result ((count : ℕ) → AreWithin count self.old
+            → AreWithin (suc count) self.new) }
     {
         match &amount.cost {
             Some(_) => self.add_legs(legs),
@@ -70,7 +71,8 @@ impl Residuals {
         requires room { AreWithin (most_postings - 1) self.old }
         ensures sum { OnOk result ((weights : List (List ℕ × ℤ)) → self.old ≡ residuals weights
             → self.new ≡ residuals (weights ++ map weight_of legs.now)) }
-        ensures within { OnOk result ((count : ℕ) → AreWithin count self.old → AreWithin (suc count) self.new) }
+        ensures within { OnOk result ((count : ℕ) → AreWithin count self.old
+            → AreWithin (suc count) self.new) }
     {
         for leg in legs {
             let (currency, weight) = leg.weight();
@@ -214,7 +216,8 @@ impl Residuals {
     /// units. The only error is out of memory. It comes only where a residual isn't zero.
     pub fn fills(&self, alloc: Global) -> Result<Vec<(Commodity, Units)>, AllocError>
         requires { first_currency (λ r. not (fits_units r.1)) self.now ≡ None }
-        ensures fills { IfOk result (λ fills. fills.items ≡ map (λ r. (r.0, opposite r.1)) (left_over self.now)) }
+        ensures fills { IfOk result
+            (λ fills. fills.items ≡ map (λ r. (r.0, opposite r.1)) (left_over self.now)) }
         ensures memory { OnErr result (left_over self.now ≢ []) }
     {
         let mut fills = Vec::new(alloc);
@@ -231,7 +234,8 @@ impl Residuals {
 /// Returns what an amount without braces weighs, with the currency. With a price for each unit it is the units times the rate;
 /// with a total it is the total with the sign of the units. Without a price it is the units themselves, in their commodity.
 fn weight_at_price(amount: &Amount) -> (&Commodity, Wide)
-    ensures value { (result.0.now, result.1) ≡ weight_at_price amount.now.commodity amount.now.units amount.now.price }
+    ensures value { (result.0.now, result.1)
+        ≡ weight_at_price amount.now.commodity amount.now.units amount.now.price }
     ensures bound { unsigned_abs result.1 ≤ units_limit * rate_limit }
 {
     let units = amount.units.wide();

@@ -48,14 +48,21 @@ impl Draft {
         requires room { AreWithin (most_postings - 1) self.old.residuals }
         ensures legs { OnOk result (self.new.tally.legs ≡ self.old.tally.legs ++ legs.items) }
         ensures lists { OnOk result (ListsTally (known_with_openings view.now) self.new.tally) }
-        ensures sum { OnOk result ((weights : List (List ℕ × ℤ)) → self.old.residuals ≡ residuals weights
-            → self.new.residuals ≡ residuals (weights ++ weights_by amount.now.cost amount.now legs.items)) }
-        ensures within { OnOk result ((count : ℕ) → AreWithin count self.old.residuals → AreWithin (suc count) self.new.residuals) }
+        ensures sum { OnOk result ((weights : List (List ℕ × ℤ))
+            → self.old.residuals ≡ residuals weights
+            → self.new.residuals
+            ≡ residuals (weights ++ weights_by amount.now.cost amount.now legs.items)) }
+        ensures within { OnOk result ((count : ℕ) → AreWithin count self.old.residuals
+            → AreWithin (suc count) self.new.residuals) }
         ensures sales { OnOk result (self.new.sales ≡ self.old.sales) }
-        ensures in_range { OnOk result ((account : List ℕ) (posting : ℕ) → AreOf account posting legs.items
-            → leave_range (with_legs account ((known view.now).held account) self.old.tally.legs) legs.items ≡ false) }
-        ensures stops { IfErr result (λ stop. (account : List ℕ) (posting : ℕ) → AreOf account posting legs.items
-            → StopsAt (with_legs account ((known view.now).held account) self.old.tally.legs) posting legs.items stop) }
+        ensures in_range { OnOk result ((account : List ℕ) (posting : ℕ)
+            → AreOf account posting legs.items
+            → leave_range (with_legs account ((known view.now).held account) self.old.tally.legs)
+            legs.items ≡ false) }
+        ensures stops { IfErr result
+            (λ stop. (account : List ℕ) (posting : ℕ) → AreOf account posting legs.items
+            → StopsAt (with_legs account ((known view.now).held account) self.old.tally.legs)
+            posting legs.items stop) }
         ensures memory { IsErrOf result Memory → (account : List ℕ) (posting : ℕ)
             → AreOf account posting legs.items
             → IsFirstInRange (with_legs account ((known view.now).held account)

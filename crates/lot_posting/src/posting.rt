@@ -54,9 +54,11 @@ pub fn book_posting(
     requires number { HasNumber site.now.entry site.now.posting }
     requires lists { ListsTally (known_with_openings view.now) draft.old.tally }
     requires room { AreWithin (most_postings - 1) draft.old.residuals }
-    ensures books { OnOk result (BooksAt (known_with_openings view.now) site.now draft.old draft.new) }
+    ensures books { OnOk result
+        (BooksAt (known_with_openings view.now) site.now draft.old draft.new) }
     ensures lists { OnOk result (ListsTally (known_with_openings view.now) draft.new.tally) }
-    ensures stops { IfErr result (λ stop. StopsPosting (line_at (known_with_openings view.now) site.now draft.old.tally.legs) stop) }
+    ensures stops { IfErr result (λ stop.
+        StopsPosting (line_at (known_with_openings view.now) site.now draft.old.tally.legs) stop) }
     ensures memory { IsErrOf result Memory → MayLackMemory draft.old.tally.legs
         (line_at (known_with_openings view.now) site.now draft.old.tally.legs) }
 {
@@ -73,9 +75,11 @@ fn book_plain(view: &View, site: &Site<'_>, draft: &mut Draft) -> Result<(), Sto
     requires number { HasNumber site.now.entry site.now.posting }
     requires lists { ListsTally (known_with_openings view.now) draft.old.tally }
     requires room { AreWithin (most_postings - 1) draft.old.residuals }
-    ensures books { OnOk result (BooksAt (known_with_openings view.now) site.now draft.old draft.new) }
+    ensures books { OnOk result
+        (BooksAt (known_with_openings view.now) site.now draft.old draft.new) }
     ensures lists { OnOk result (ListsTally (known_with_openings view.now) draft.new.tally) }
-    ensures stops { IfErr result (λ stop. StopsPosting (line_at (known_with_openings view.now) site.now draft.old.tally.legs) stop) }
+    ensures stops { IfErr result (λ stop.
+        StopsPosting (line_at (known_with_openings view.now) site.now draft.old.tally.legs) stop) }
     ensures memory { IsErrOf result Memory → MayLackMemory draft.old.tally.legs
         (line_at (known_with_openings view.now) site.now draft.old.tally.legs) }
 {
@@ -107,9 +111,11 @@ fn book_at_cost(
     requires number { HasNumber site.now.entry site.now.posting }
     requires lists { ListsTally (known_with_openings view.now) draft.old.tally }
     requires room { AreWithin (most_postings - 1) draft.old.residuals }
-    ensures books { OnOk result (BooksAt (known_with_openings view.now) site.now draft.old draft.new) }
+    ensures books { OnOk result
+        (BooksAt (known_with_openings view.now) site.now draft.old draft.new) }
     ensures lists { OnOk result (ListsTally (known_with_openings view.now) draft.new.tally) }
-    ensures stops { IfErr result (λ stop. StopsPosting (line_at (known_with_openings view.now) site.now draft.old.tally.legs) stop) }
+    ensures stops { IfErr result (λ stop.
+        StopsPosting (line_at (known_with_openings view.now) site.now draft.old.tally.legs) stop) }
     ensures memory { IsErrOf result Memory → MayLackMemory draft.old.tally.legs
         (line_at (known_with_openings view.now) site.now draft.old.tally.legs) }
 {
@@ -199,10 +205,12 @@ fn book_on(
     cost: &Cost,
 ) -> Result<Booked, Stop>
     ensures booked { IfOk result (λ booked. ComesTo
-        (posting_on selection held.now site.now.amount.now.commodity site.now.amount.now.units cost.now site.now.day)
+        (posting_on selection held.now site.now.amount.now.commodity site.now.amount.now.units
+        cost.now site.now.day)
         (Legs booked.reduces booked.legs.items)) }
     ensures stops { IfErr result (λ stop. StopsOn
-        (posting_on selection held.now site.now.amount.now.commodity site.now.amount.now.units cost.now site.now.day)
+        (posting_on selection held.now site.now.amount.now.commodity site.now.amount.now.units
+        cost.now site.now.day)
         site.now.posting stop) }
     ensures memory { IsErrOf result Memory → ComesToLegs
         (posting_on selection held.now site.now.amount.now.commodity site.now.amount.now.units
@@ -245,7 +253,8 @@ fn leg_of(
     lot: Option<LotKey>,
     units: Units,
 ) -> Result<Leg, AllocError>
-    ensures { IfOk result (λ leg. leg ≡ leg_at site.now.entry site.now.posting place site.now.account.now site.now.amount.now.commodity lot units) }
+    ensures { IfOk result (λ leg. leg ≡ leg_at site.now.entry site.now.posting place
+        site.now.account.now site.now.amount.now.commodity lot units) }
 {
     let position = Position {
         account: site.account.copy()?,
@@ -267,7 +276,8 @@ fn legs_of_lots(
     site: &Site<'_>,
     lots: &[(LotKey, Units)],
 ) -> Result<Vec<Leg>, AllocError>
-    ensures { IfOk result (λ legs. legs.items ≡ legs_at_lots site.now.entry site.now.posting site.now.account.now site.now.amount.now.commodity 0 lots.now) }
+    ensures { IfOk result (λ legs. legs.items ≡ legs_at_lots site.now.entry site.now.posting
+        site.now.account.now site.now.amount.now.commodity 0 lots.now) }
 {
     let mut legs = Vec::new(alloc);
     for (place, lot) in lots.iter().enumerate() {

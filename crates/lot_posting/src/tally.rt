@@ -83,7 +83,8 @@ impl Tally {
         requires lists { ListsTally (known_with_openings view.now) self.old }
         ensures legs { OnOk result (self.new.legs ≡ self.old.legs ++ leg ∷ []) }
         ensures lists { OnOk result (ListsTally (known_with_openings view.now) self.new) }
-        ensures in_range { OnOk result (IsUnits (units_after (known view.now) self.old.legs leg.position +ℤ leg.units)) }
+        ensures in_range { OnOk result
+            (IsUnits (units_after (known view.now) self.old.legs leg.position +ℤ leg.units)) }
         ensures stops { IfErr result (λ stop. StopsAtLeg (known view.now) self.old.legs leg stop) }
         ensures memory { IsErrOf result Memory
             → IsUnits (units_after (known view.now) self.old.legs leg.position +ℤ leg.units) }
@@ -136,10 +137,14 @@ impl Tally {
         requires lists { ListsTally (known_with_openings view.now) self.old }
         ensures legs { OnOk result (self.new.legs ≡ self.old.legs ++ legs.items) }
         ensures lists { OnOk result (ListsTally (known_with_openings view.now) self.new) }
-        ensures in_range { OnOk result ((account : List ℕ) (posting : ℕ) → AreOf account posting legs.items
-            → leave_range (with_legs account ((known view.now).held account) self.old.legs) legs.items ≡ false) }
-        ensures stops { IfErr result (λ stop. (account : List ℕ) (posting : ℕ) → AreOf account posting legs.items
-            → StopsAt (with_legs account ((known view.now).held account) self.old.legs) posting legs.items stop) }
+        ensures in_range { OnOk result ((account : List ℕ) (posting : ℕ)
+            → AreOf account posting legs.items
+            → leave_range
+            (with_legs account ((known view.now).held account) self.old.legs) legs.items ≡ false) }
+        ensures stops { IfErr result
+            (λ stop. (account : List ℕ) (posting : ℕ) → AreOf account posting legs.items
+            → StopsAt (with_legs account ((known view.now).held account) self.old.legs) posting
+            legs.items stop) }
         ensures memory { IsErrOf result Memory → (account : List ℕ) (posting : ℕ)
             → AreOf account posting legs.items
             → BeginInRange (with_legs account ((known view.now).held account) self.old.legs)
@@ -292,7 +297,8 @@ impl Tally {
     /// Returns how many lots of a commodity an account holds after the legs so far.
     pub fn count_lots(&self, view: &View, account: &Account, commodity: &Commodity) -> u128
         requires { ListsTally (known_with_openings view.now) self.now }
-        ensures { result ≡ length (lots_of (with_legs account.now ((known view.now).held account.now) self.now.legs) commodity.now) }
+        ensures { result ≡ length (lots_of (with_legs account.now
+            ((known view.now).held account.now) self.now.legs) commodity.now) }
     {
         let before = match view.held(account) {
             Some(held) => u128::from(held.lots(commodity)),

@@ -30,9 +30,11 @@ pub fn canonical_texts_tell_commands_apart()
 
 /// The lines of canonical texts have at most 4,018 bytes, and one line has that many. A line of that length may be read.
 pub fn canonical_lines_are_short()
-    ensures most { (command : Command) (lines : List (List ℕ)) → IsSayable command → AreLines lines (canonical command)
+    ensures most { (command : Command) (lines : List (List ℕ)) → IsSayable command
+        → AreLines lines (canonical command)
         → AllByRecursion (λ line. length line ≤ longest_printed) lines }
-    ensures reached { (command : Command) × (line : List ℕ) × IsSayable command × AreLines (line ∷ []) (canonical command)
+    ensures reached { (command : Command) × (line : List ℕ) × IsSayable command
+        × AreLines (line ∷ []) (canonical command)
         × (length line ≡ longest_printed) }
     ensures within { longest_printed ≤ longest_line }
 {}

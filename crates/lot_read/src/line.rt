@@ -107,7 +107,8 @@ fn command<'a>(
     room: &mut CurrencyWords<'a>,
     tokens: &Tokens<'_, 'a>,
 ) -> Result<Option<Statement>, StatementFault>
-    ensures { (may_post : Bool) (line : List ℕ) → IsLineOf false tokens.now line → GivesStatement may_post line result }
+    ensures { (may_post : Bool) (line : List ℕ) → IsLineOf false tokens.now line
+        → GivesStatement may_post line result }
 {
     let form = lot_form::header(room, tokens)?;
     let command = lot_meaning::command(names, &form)?;

@@ -109,7 +109,8 @@ impl Progress {
     /// Takes and writes one sale.
     fn row<W: CountedWrite>(&mut self, sale: &Sale, writer: &mut W) -> Result<(), ReportFault>
         ensures takes { (sales : List SaleParts) → HasTaken sales self.old
-            → TakesSale sales sale.now self.new (W.contents writer.old) (W.contents writer.new) result }
+            → TakesSale sales sale.now self.new (W.contents writer.old)
+            (W.contents writer.new) result }
         ensures cause { IsErrOf result ReportFault.Write → HasFailed (W.calls writer.new) }
         ensures none_failed { OnOk result (NoneFailed (W.calls writer.old) (W.calls writer.new)) }
     {
@@ -120,7 +121,8 @@ impl Progress {
 
     /// Adds the gain of one more sale; an unpriced one has none.
     fn take_gain(&mut self, sale: &Sale) -> Result<(), ReportFault>
-        ensures counts { (sales : List SaleParts) → HasTaken sales self.old → CountsSale sales sale.now self.new result }
+        ensures counts { (sales : List SaleParts) → HasTaken sales self.old
+            → CountsSale sales sale.now self.new result }
         ensures cause { IfErr result (λ fault. fault ≢ ReportFault.Write) }
     {
         self.is_empty = false;
@@ -132,7 +134,8 @@ impl Progress {
 
     /// Writes what stands behind the sales.
     fn end<W: CountedWrite>(&self, writer: &mut W) -> Result<(), PrintFault>
-        ensures lines { WritesEach (λ text. text) (end_lines self.now.is_empty self.now.gains.sums.entries) (W.contents writer.old) (W.contents writer.new) result }
+        ensures lines { WritesEach (λ text. text) (end_lines self.now.is_empty
+            self.now.gains.sums.entries) (W.contents writer.old) (W.contents writer.new) result }
         ensures cause { IsErrOf result PrintFault.Write → HasFailed (W.calls writer.new) }
         ensures none_failed { OnOk result (NoneFailed (W.calls writer.old) (W.calls writer.new)) }
     {
@@ -163,7 +166,8 @@ fn currency_of(price: &Price) -> &Commodity
 }
 
 fn print_sale<W: CountedWrite>(alloc: Global, writer: &mut W, sale: &Sale) -> Result<(), PrintFault>
-    ensures lines { WritesEach (λ text. text) (sale_lines sale.now) (W.contents writer.old) (W.contents writer.new) result }
+    ensures lines { WritesEach (λ text. text) (sale_lines sale.now) (W.contents writer.old)
+        (W.contents writer.new) result }
     ensures cause { IsErrOf result PrintFault.Write → HasFailed (W.calls writer.new) }
     ensures none_failed { OnOk result (NoneFailed (W.calls writer.old) (W.calls writer.new)) }
 {
@@ -177,7 +181,8 @@ fn print_front<W: CountedWrite>(
     writer: &mut W,
     sale: &Sale,
 ) -> Result<(), PrintFault>
-    ensures line { WritesLine (W.contents writer.old) (W.contents writer.new) result (sale_line sale.now (gained sale.now)) }
+    ensures line { WritesLine (W.contents writer.old) (W.contents writer.new) result
+        (sale_line sale.now (gained sale.now)) }
     ensures cause { IsErrOf result PrintFault.Write → HasFailed (W.calls writer.new) }
     ensures none_failed { OnOk result (NoneFailed (W.calls writer.old) (W.calls writer.new)) }
 {
@@ -195,7 +200,8 @@ fn print_priced<W: CountedWrite>(
     currency: &Commodity,
     gain: Gain,
 ) -> Result<(), PrintFault>
-    ensures line { WritesLine (W.contents writer.old) (W.contents writer.new) result (priced_line sale.now currency.now gain) }
+    ensures line { WritesLine (W.contents writer.old) (W.contents writer.new) result
+        (priced_line sale.now currency.now gain) }
     ensures cause { IsErrOf result PrintFault.Write → HasFailed (W.calls writer.new) }
     ensures none_failed { OnOk result (NoneFailed (W.calls writer.old) (W.calls writer.new)) }
 {
@@ -219,7 +225,8 @@ fn print_unpriced<W: CountedWrite>(
     writer: &mut W,
     sale: &Sale,
 ) -> Result<(), PrintFault>
-    ensures line { WritesLine (W.contents writer.old) (W.contents writer.new) result (unpriced_line sale.now) }
+    ensures line { WritesLine (W.contents writer.old) (W.contents writer.new) result
+        (unpriced_line sale.now) }
     ensures cause { IsErrOf result PrintFault.Write → HasFailed (W.calls writer.new) }
     ensures none_failed { OnOk result (NoneFailed (W.calls writer.old) (W.calls writer.new)) }
 {
@@ -255,7 +262,8 @@ impl fmt::Display for SaleFront<'_> {
 
 /// Writes the legs of a sale, in the order in which the lots were taken: each in the line of a lot, two spaces in.
 fn print_legs<W: CountedWrite>(alloc: Global, writer: &mut W, sale: &Sale) -> Result<(), PrintFault>
-    ensures lines { WritesEach (leg_line sale.now.commodity) sale.now.legs (W.contents writer.old) (W.contents writer.new) result }
+    ensures lines { WritesEach (leg_line sale.now.commodity) sale.now.legs (W.contents writer.old)
+        (W.contents writer.new) result }
     ensures cause { IsErrOf result PrintFault.Write → HasFailed (W.calls writer.new) }
     ensures none_failed { OnOk result (NoneFailed (W.calls writer.old) (W.calls writer.new)) }
 {

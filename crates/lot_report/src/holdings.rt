@@ -127,7 +127,8 @@ impl Progress {
         writer: &mut W,
     ) -> Result<(), ReportFault>
         ensures takes { (rows : List Row) → HasTaken rows self.old
-            → TakesHolding rows row.now self.new (W.contents writer.old) (W.contents writer.new) result }
+            → TakesHolding rows row.now self.new (W.contents writer.old)
+            (W.contents writer.new) result }
         ensures cause { IsErrOf result ReportFault.Write → HasFailed (W.calls writer.new) }
         ensures none_failed { OnOk result (NoneFailed (W.calls writer.old) (W.calls writer.new)) }
     {
@@ -138,7 +139,8 @@ impl Progress {
 
     /// Adds the cost and the value of one more row. Plain units have neither.
     fn count(&mut self, row: &ValuedHolding) -> Result<(), ReportFault>
-        ensures counts { (rows : List Row) → HasTaken rows self.old → CountsHolding rows row.now self.new result }
+        ensures counts { (rows : List Row) → HasTaken rows self.old
+            → CountsHolding rows row.now self.new result }
         ensures cause { IfErr result (λ fault. fault ≢ ReportFault.Write) }
     {
         self.is_empty = false;
@@ -155,9 +157,11 @@ impl Progress {
         units: Units,
         price: Option<Rate>,
     ) -> Result<(), ReportFault>
-        ensures sums { (costs values : List (List ℕ × ℤ)) → AreSums costs self.old.costs.sums.entries
+        ensures sums { (costs values : List (List ℕ × ℤ))
+            → AreSums costs self.old.costs.sums.entries
             → AreSums values self.old.values.sums.entries
-            → CountsBoth costs values (cost_of (Some lot.now) units) (value_at price lot.now units) self.new.costs self.new.values result }
+            → CountsBoth costs values (cost_of (Some lot.now) units)
+            (value_at price lot.now units) self.new.costs self.new.values result }
         ensures rest { self.new.is_empty ≡ self.old.is_empty }
         ensures cause { IfErr result (λ fault. fault ≢ ReportFault.Write) }
     {
@@ -170,9 +174,11 @@ impl Progress {
 
     /// Adds a cost and a value in a currency.
     fn add_both(&mut self, currency: &Commodity, cost: Wide, value: Wide) -> Result<(), ReportFault>
-        ensures sums { (costs values : List (List ℕ × ℤ)) → AreSums costs self.old.costs.sums.entries
+        ensures sums { (costs values : List (List ℕ × ℤ))
+            → AreSums costs self.old.costs.sums.entries
             → AreSums values self.old.values.sums.entries
-            → CountsBoth costs values ((currency.now, cost) ∷ []) ((currency.now, value) ∷ []) self.new.costs self.new.values result }
+            → CountsBoth costs values ((currency.now, cost) ∷ [])
+            ((currency.now, value) ∷ []) self.new.costs self.new.values result }
         ensures rest { self.new.is_empty ≡ self.old.is_empty }
         ensures cause { IfErr result (λ fault. fault ≢ ReportFault.Write) }
     {
@@ -188,7 +194,8 @@ impl Progress {
 
     /// Writes what stands behind the rows.
     fn end<W: CountedWrite>(&self, writer: &mut W) -> Result<(), PrintFault>
-        ensures lines { WritesEach (λ text. text) (end_lines self.now.is_empty self.now.costs.sums.entries self.now.values.sums.entries)
+        ensures lines { WritesEach (λ text. text)
+            (end_lines self.now.is_empty self.now.costs.sums.entries self.now.values.sums.entries)
             (W.contents writer.old) (W.contents writer.new) result }
         ensures cause { IsErrOf result PrintFault.Write → HasFailed (W.calls writer.new) }
         ensures none_failed { OnOk result (NoneFailed (W.calls writer.old) (W.calls writer.new)) }
@@ -206,7 +213,8 @@ fn print_row<W: CountedWrite>(
     writer: &mut W,
     row: &ValuedHolding,
 ) -> Result<(), PrintFault>
-    ensures line { WritesLine (W.contents writer.old) (W.contents writer.new) result (holding_row row.now) }
+    ensures line { WritesLine (W.contents writer.old) (W.contents writer.new) result
+        (holding_row row.now) }
     ensures cause { IsErrOf result PrintFault.Write → HasFailed (W.calls writer.new) }
     ensures none_failed { OnOk result (NoneFailed (W.calls writer.old) (W.calls writer.new)) }
 {

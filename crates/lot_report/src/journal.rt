@@ -57,7 +57,8 @@ impl Journal {
         entry: &Entry,
         writer: &mut W,
     ) -> Result<(), JournalFault>
-        ensures text { (entries : List EntryValue) (start : Option (List ℕ)) → Appends start (W.contents writer.old) (journal_text entries)
+        ensures text { (entries : List EntryValue) (start : Option (List ℕ))
+            → Appends start (W.contents writer.old) (journal_text entries)
             → GrowsByEntry entries entry.now start (W.contents writer.new) result }
         ensures cause { IsErrOf result JournalFault.Write → HasFailed (W.calls writer.new) }
         ensures none_failed { OnOk result (NoneFailed (W.calls writer.old) (W.calls writer.new)) }
@@ -95,7 +96,8 @@ impl Journal {
 /// Writes the text of an entry without a buffer, since the canonical text of a command may be longer than any buffered line.
 /// The only fault is that of the writer.
 fn print_entry<W: CountedWrite>(writer: &mut W, entry: &Entry) -> Result<(), PrintFault>
-    ensures bytes { WritesLine (W.contents writer.old) (W.contents writer.new) result (entry_text entry.now) }
+    ensures bytes { WritesLine (W.contents writer.old) (W.contents writer.new) result
+        (entry_text entry.now) }
     ensures fault { IfErr result (λ fault. fault ≡ PrintFault.Write) }
     ensures cause { OnErr result (HasFailed (W.calls writer.new)) }
     ensures none_failed { OnOk result (NoneFailed (W.calls writer.old) (W.calls writer.new)) }

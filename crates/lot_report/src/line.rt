@@ -61,7 +61,8 @@ pub fn print_line<W: CountedWrite, T: Display + Drop>(
 
 /// Returns a text and a line end, or `Memory` where there is no room for them.
 fn line_of<T: Display + Drop>(text: T) -> Result<ArrayString<LONGEST>, PrintFault>
-    ensures bytes { IfSome (with_newline (T.output text)) (λ bytes. IfOk result (λ line. line.bytes ≡ bytes)) }
+    ensures bytes { IfSome (with_newline (T.output text))
+        (λ bytes. IfOk result (λ line. line.bytes ≡ bytes)) }
     ensures room { LONGEST ≡ longest_written }
     ensures fault { IfErr result (λ fault. fault ≡ PrintFault.Memory) }
 {
@@ -105,7 +106,8 @@ fn joined(texts: &[&str]) -> Option<ArrayString<LONGEST>>
 /// Writes texts one behind another. It takes no memory. The only fault is that of the writer. A prefix of the texts is then
 /// written, but not all of them.
 pub(crate) fn put_all<W: CountedWrite>(writer: &mut W, texts: &[&str]) -> Result<(), PrintFault>
-    ensures bytes { WritesLine (W.contents writer.old) (W.contents writer.new) result (flat_map (λ text. text.now) texts.now) }
+    ensures bytes { WritesLine (W.contents writer.old) (W.contents writer.new) result
+        (flat_map (λ text. text.now) texts.now) }
     ensures fault { IfErr result (λ fault. fault ≡ PrintFault.Write) }
     ensures cause { OnErr result (HasFailed (W.calls writer.new)) }
     ensures none_failed { OnOk result (NoneFailed (W.calls writer.old) (W.calls writer.new)) }

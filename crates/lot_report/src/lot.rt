@@ -46,7 +46,8 @@ pub(crate) fn print_lot<'a, W: CountedWrite>(
     lot: &'a LotKey,
     valuation: Valuation,
 ) -> Result<(), PrintFault>
-    ensures line { WritesLine (W.contents writer.old) (W.contents writer.new) result (lot_row front.now commodity.now lot.now units valuation) }
+    ensures line { WritesLine (W.contents writer.old) (W.contents writer.new) result
+        (lot_row front.now commodity.now lot.now units valuation) }
     ensures cause { IsErrOf result PrintFault.Write → HasFailed (W.calls writer.new) }
     ensures none_failed { OnOk result (NoneFailed (W.calls writer.old) (W.calls writer.new)) }
 {

@@ -17,7 +17,8 @@ pub fn print_reply<W: CountedWrite>(
     number: usize,
     verdict: &Verdict,
 ) -> Result<(), PrintFault>
-    ensures bytes { WritesLine (W.contents writer.old) (W.contents writer.new) result (reply number verdict.now) }
+    ensures bytes { WritesLine (W.contents writer.old) (W.contents writer.new) result
+        (reply number verdict.now) }
     ensures fault { IfErr result (λ fault. fault ≡ PrintFault.Write) }
     ensures cause { OnErr result (HasFailed (W.calls writer.new)) }
     ensures none_failed { OnOk result (NoneFailed (W.calls writer.old) (W.calls writer.new)) }

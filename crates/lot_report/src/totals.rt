@@ -37,7 +37,8 @@ impl Totals {
         ensures fits { (amounts : List (List ℕ × ℤ)) → AreSums amounts self.old.sums.entries
             → OnOk result (IsWide (sum_in amounts currency.now +ℤ amount)) }
         ensures range { (amounts : List (List ℕ × ℤ)) → AreSums amounts self.old.sums.entries
-            → IsErrOf result ReportFault.Range → IsWide (sum_in amounts currency.now +ℤ amount) → ⊥ }
+            → IsErrOf result ReportFault.Range → IsWide (sum_in amounts currency.now +ℤ amount)
+            → ⊥ }
         ensures memory { (amounts : List (List ℕ × ℤ)) → AreSums amounts self.old.sums.entries
             → IsErrOf result ReportFault.Memory → IsWide (sum_in amounts currency.now +ℤ amount) }
         ensures cause { IfErr result (λ fault. fault ≢ ReportFault.Write) }
@@ -51,7 +52,8 @@ impl Totals {
     /// Returns the sum in a currency with one more amount, where it is in range.
     pub fn sum_with(&self, currency: &Commodity, amount: Wide) -> Option<Wide>
         ensures { (amounts : List (List ℕ × ℤ)) → AreSums amounts self.now.sums.entries
-            → SomeIff result (IsWide (sum_in amounts currency.now +ℤ amount)) (sum_in amounts currency.now +ℤ amount) }
+            → SomeIff result (IsWide (sum_in amounts currency.now +ℤ amount))
+            (sum_in amounts currency.now +ℤ amount) }
     {
         let sum = self.sums.get(currency).copied().unwrap_or(Wide::ZERO);
         sum.checked_add(amount)
@@ -59,7 +61,8 @@ impl Totals {
 
     /// Sets the sum in a currency. The only error is out of memory.
     pub fn set(&mut self, currency: &Commodity, sum: Wide) -> Result<(), ReportFault>
-        ensures sums { (amounts : List (List ℕ × ℤ)) (amount : ℤ) → AreSums amounts self.old.sums.entries
+        ensures sums { (amounts : List (List ℕ × ℤ)) (amount : ℤ)
+            → AreSums amounts self.old.sums.entries
             → sum ≡ sum_in amounts currency.now +ℤ amount
             → OnOk result (AreSums (amounts ++ (currency.now, amount) ∷ []) self.new.sums.entries) }
         ensures cause { IfErr result (λ fault. fault ≡ ReportFault.Memory) }
@@ -75,7 +78,8 @@ impl Totals {
         writer: &mut W,
         what: &str,
     ) -> Result<(), PrintFault>
-        ensures lines { WritesEach (λ sum. total_of what.now sum.0 sum.1) self.now.sums.entries (W.contents writer.old) (W.contents writer.new) result }
+        ensures lines { WritesEach (λ sum. total_of what.now sum.0 sum.1) self.now.sums.entries
+            (W.contents writer.old) (W.contents writer.new) result }
         ensures cause { IsErrOf result PrintFault.Write → HasFailed (W.calls writer.new) }
         ensures none_failed { OnOk result (NoneFailed (W.calls writer.old) (W.calls writer.new)) }
     {
@@ -94,7 +98,8 @@ fn print_total<W: CountedWrite>(
     currency: &Commodity,
     total: Wide,
 ) -> Result<(), PrintFault>
-    ensures line { WritesLine (W.contents writer.old) (W.contents writer.new) result (total_of what.now currency.now total) }
+    ensures line { WritesLine (W.contents writer.old) (W.contents writer.new) result
+        (total_of what.now currency.now total) }
     ensures cause { IsErrOf result PrintFault.Write → HasFailed (W.calls writer.new) }
     ensures none_failed { OnOk result (NoneFailed (W.calls writer.old) (W.calls writer.new)) }
 {

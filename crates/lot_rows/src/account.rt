@@ -42,7 +42,8 @@ impl TableRow for AccountRow {
 
 /// Puts a row. It replaces the row of the same key, if there is one.
 pub fn put<S: Alter>(tx: &mut Transaction<'_, S>, row: &AccountRow) -> Result<(), Fault>
-    requires { HasCleanDisk (state S.Store tx.old.conn.now) → IsTrue (state S.Store tx.old.conn.now).in_transaction }
+    requires { HasCleanDisk (state S.Store tx.old.conn.now)
+        → IsTrue (state S.Store tx.old.conn.now).in_transaction }
     ensures same_reference { tx.new.conn.ghost_name ≡ tx.old.conn.ghost_name }
     ensures puts { Puts layout account_table row.now
         (state S.Store tx.old.conn.now) (state S.Store tx.new.conn.now) result }
@@ -66,7 +67,8 @@ pub fn find<D: Queryable>(
     name: &Account,
 ) -> Result<Option<AccountRow>, Fault>
     ensures same_reference { D.reference conn.new ≡ D.reference conn.old }
-    ensures finds { Finds layout IsAccountRow (λ b. with_key account_cells 1 (Text name.now ∷ []) b.account)
+    ensures finds { Finds layout IsAccountRow
+        (λ b. with_key account_cells 1 (Text name.now ∷ []) b.account)
         (D.shown conn.old) (D.shown conn.new) result }
 {
     find_row(

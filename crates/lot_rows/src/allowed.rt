@@ -40,7 +40,8 @@ impl TableRow for AllowedRow {
 
 /// Puts a row. It replaces the row of the same key, if there is one.
 pub fn put<S: Alter>(tx: &mut Transaction<'_, S>, row: &AllowedRow) -> Result<(), Fault>
-    requires { HasCleanDisk (state S.Store tx.old.conn.now) → IsTrue (state S.Store tx.old.conn.now).in_transaction }
+    requires { HasCleanDisk (state S.Store tx.old.conn.now)
+        → IsTrue (state S.Store tx.old.conn.now).in_transaction }
     ensures same_reference { tx.new.conn.ghost_name ≡ tx.old.conn.ghost_name }
     ensures puts { Puts layout allowed_table row.now
         (state S.Store tx.old.conn.now) (state S.Store tx.new.conn.now) result }
@@ -63,7 +64,8 @@ pub fn list_of<D: Queryable>(
     account: &Account,
 ) -> Result<Vec<AllowedRow>, Fault>
     ensures same_reference { D.reference conn.new ≡ D.reference conn.old }
-    ensures lists { Lists layout IsAllowedRow (λ b. with_key allowed_cells 1 (Text account.now ∷ []) b.allowed)
+    ensures lists { Lists layout IsAllowedRow
+        (λ b. with_key allowed_cells 1 (Text account.now ∷ []) b.allowed)
         (D.shown conn.old) (D.shown conn.new) result }
 {
     select(

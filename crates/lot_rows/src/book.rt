@@ -34,7 +34,8 @@ impl TableRow for BookRow {
 
 /// Puts a row. It replaces the row of the same key, if there is one.
 pub fn put<S: Alter>(tx: &mut Transaction<'_, S>, row: &BookRow) -> Result<(), Fault>
-    requires { HasCleanDisk (state S.Store tx.old.conn.now) → IsTrue (state S.Store tx.old.conn.now).in_transaction }
+    requires { HasCleanDisk (state S.Store tx.old.conn.now)
+        → IsTrue (state S.Store tx.old.conn.now).in_transaction }
     ensures same_reference { tx.new.conn.ghost_name ≡ tx.old.conn.ghost_name }
     ensures puts { Puts layout book_table row.now
         (state S.Store tx.old.conn.now) (state S.Store tx.new.conn.now) result }

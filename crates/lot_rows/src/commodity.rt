@@ -37,7 +37,8 @@ impl TableRow for CommodityRow {
 
 /// Puts a row. It replaces the row of the same key, if there is one.
 pub fn put<S: Alter>(tx: &mut Transaction<'_, S>, row: &CommodityRow) -> Result<(), Fault>
-    requires { HasCleanDisk (state S.Store tx.old.conn.now) → IsTrue (state S.Store tx.old.conn.now).in_transaction }
+    requires { HasCleanDisk (state S.Store tx.old.conn.now)
+        → IsTrue (state S.Store tx.old.conn.now).in_transaction }
     ensures same_reference { tx.new.conn.ghost_name ≡ tx.old.conn.ghost_name }
     ensures puts { Puts layout commodity_table row.now
         (state S.Store tx.old.conn.now) (state S.Store tx.new.conn.now) result }
@@ -56,7 +57,8 @@ pub fn find<D: Queryable>(
     name: &Commodity,
 ) -> Result<Option<CommodityRow>, Fault>
     ensures same_reference { D.reference conn.new ≡ D.reference conn.old }
-    ensures finds { Finds layout IsCommodityRow (λ b. with_key commodity_cells 1 (Text name.now ∷ []) b.commodity)
+    ensures finds { Finds layout IsCommodityRow
+        (λ b. with_key commodity_cells 1 (Text name.now ∷ []) b.commodity)
         (D.shown conn.old) (D.shown conn.new) result }
 {
     find_row(

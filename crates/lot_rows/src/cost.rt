@@ -66,10 +66,13 @@ pub(crate) fn is_null(row: &Row, at: usize) -> bool
 /// The error is `Memory`, or `Damaged` exactly where the columns aren't all null and say no lot that a book can have.
 pub(crate) fn lot(alloc: Global, row: &Row) -> Result<Option<LotKey>, Fault>
     requires { length row.now ≡ 10 }
-    ensures ok { IfOk result (λ lot. (column row.now 6 ≡ cost_number lot) × (column row.now 7 ≡ cost_currency lot) × (column row.now 8 ≡ cost_day lot) × (column row.now 9 ≡ cost_label lot)) }
+    ensures ok { IfOk result
+        (λ lot. (column row.now 6 ≡ cost_number lot) × (column row.now 7 ≡ cost_currency lot)
+        × (column row.now 8 ≡ cost_day lot) × (column row.now 9 ≡ cost_label lot)) }
     ensures good { IfOk result IsLotOrPlain }
     ensures damaged { result ≡ Err Fault.Damaged → (lot : Option LotKey) → IsLotOrPlain lot
-        → ¬ ((column row.now 6 ≡ cost_number lot) × (column row.now 7 ≡ cost_currency lot) × (column row.now 8 ≡ cost_day lot) × (column row.now 9 ≡ cost_label lot)) }
+        → ¬ ((column row.now 6 ≡ cost_number lot) × (column row.now 7 ≡ cost_currency lot)
+        × (column row.now 8 ≡ cost_day lot) × (column row.now 9 ≡ cost_label lot)) }
     ensures no_device { result ≢ Err Fault.Device }
 {
     if is_null(row, 6) && is_null(row, 7) && is_null(row, 8) && is_null(row, 9) {

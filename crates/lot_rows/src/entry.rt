@@ -43,7 +43,8 @@ impl TableRow for EntryRow {
 
 /// Adds a row. No row may have its number, or its source and name: look them up before.
 pub fn add<S: Alter>(tx: &mut Transaction<'_, S>, row: &EntryRow) -> Result<(), Fault>
-    requires { HasCleanDisk (state S.Store tx.old.conn.now) → IsTrue (state S.Store tx.old.conn.now).in_transaction }
+    requires { HasCleanDisk (state S.Store tx.old.conn.now)
+        → IsTrue (state S.Store tx.old.conn.now).in_transaction }
     ensures same_reference { tx.new.conn.ghost_name ≡ tx.old.conn.ghost_name }
     ensures adds { PutsWhere layout entry_table (IsNewEntry row.now) row.now
         (state S.Store tx.old.conn.now) (state S.Store tx.new.conn.now) result }
@@ -82,7 +83,8 @@ pub fn find<D: Queryable>(
 /// Returns the greatest number, which is that of the last row, or `None` where there is no row.
 pub fn greatest<D: Queryable>(alloc: Global, conn: &mut D) -> Result<Option<Ordinal>, Fault>
     ensures same_reference { D.reference conn.new ≡ D.reference conn.old }
-    ensures answers { Answers layout (λ number b. number ≡ greatest_number b.entry) always (λ b. All IsEntryRow b.entry)
+    ensures answers { Answers layout (λ number b. number ≡ greatest_number b.entry) always
+        (λ b. All IsEntryRow b.entry)
         (D.shown conn.old) (D.shown conn.new) result }
 {
     let row = greatest_row(alloc, conn)?;
@@ -113,7 +115,8 @@ impl TableRow for NumberRow {
 /// Returns the row of the greatest number, or `None` where there is no row.
 fn greatest_row<D: Queryable>(alloc: Global, conn: &mut D) -> Result<Option<NumberRow>, Fault>
     ensures same_reference { D.reference conn.new ≡ D.reference conn.old }
-    ensures answers { Answers layout (λ row b. option_map (λ (n : NumberRow). n.number) row ≡ greatest_number b.entry) always (λ b. All IsEntryRow b.entry)
+    ensures answers { Answers layout (λ row b. option_map (λ (n : NumberRow). n.number) row
+        ≡ greatest_number b.entry) always (λ b. All IsEntryRow b.entry)
         (D.shown conn.old) (D.shown conn.new) result }
 {
     find_row(

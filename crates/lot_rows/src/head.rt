@@ -39,7 +39,8 @@ impl TableRow for HeadRow {
 
 /// Puts a row. It replaces the row of the same key, if there is one.
 pub fn put<S: Alter>(tx: &mut Transaction<'_, S>, row: &HeadRow) -> Result<(), Fault>
-    requires { HasCleanDisk (state S.Store tx.old.conn.now) → IsTrue (state S.Store tx.old.conn.now).in_transaction }
+    requires { HasCleanDisk (state S.Store tx.old.conn.now)
+        → IsTrue (state S.Store tx.old.conn.now).in_transaction }
     ensures same_reference { tx.new.conn.ghost_name ≡ tx.old.conn.ghost_name }
     ensures puts { Puts layout head_table row.now
         (state S.Store tx.old.conn.now) (state S.Store tx.new.conn.now) result }
@@ -82,7 +83,8 @@ pub fn find<D: Queryable>(
     commodity: &Commodity,
 ) -> Result<Option<HeadRow>, Fault>
     ensures same_reference { D.reference conn.new ≡ D.reference conn.old }
-    ensures finds { Finds layout IsHeadRow (λ b. with_key head_cells 2 (Text account.now ∷ Text commodity.now ∷ []) b.head)
+    ensures finds { Finds layout IsHeadRow
+        (λ b. with_key head_cells 2 (Text account.now ∷ Text commodity.now ∷ []) b.head)
         (D.shown conn.old) (D.shown conn.new) result }
 {
     find_row(

@@ -52,7 +52,8 @@ impl TableRow for LegRow {
 
 /// Adds a row. No row may have its entry, posting and place.
 pub fn add<S: Alter>(tx: &mut Transaction<'_, S>, row: &LegRow) -> Result<(), Fault>
-    requires { HasCleanDisk (state S.Store tx.old.conn.now) → IsTrue (state S.Store tx.old.conn.now).in_transaction }
+    requires { HasCleanDisk (state S.Store tx.old.conn.now)
+        → IsTrue (state S.Store tx.old.conn.now).in_transaction }
     ensures same_reference { tx.new.conn.ghost_name ≡ tx.old.conn.ghost_name }
     ensures adds { Adds layout leg_table row.now
         (state S.Store tx.old.conn.now) (state S.Store tx.new.conn.now) result }
@@ -83,7 +84,8 @@ pub fn list_of<D: Queryable>(
     posting: Ordinal,
 ) -> Result<Vec<LegRow>, Fault>
     ensures same_reference { D.reference conn.new ≡ D.reference conn.old }
-    ensures lists { ListsColumns layout leg_cells IsLegRow (λ b. with_key leg_cells 2 (Int (pos entry) ∷ Int (pos posting) ∷ []) b.leg)
+    ensures lists { ListsColumns layout leg_cells IsLegRow
+        (λ b. with_key leg_cells 2 (Int (pos entry) ∷ Int (pos posting) ∷ []) b.leg)
         (D.shown conn.old) (D.shown conn.new) result }
 {
     select(

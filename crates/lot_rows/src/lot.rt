@@ -49,7 +49,8 @@ impl TableRow for LotRow {
 
 /// Puts a row. It replaces the row of the same key, if there is one.
 pub fn put<S: Alter>(tx: &mut Transaction<'_, S>, row: &LotRow) -> Result<(), Fault>
-    requires { HasCleanDisk (state S.Store tx.old.conn.now) → IsTrue (state S.Store tx.old.conn.now).in_transaction }
+    requires { HasCleanDisk (state S.Store tx.old.conn.now)
+        → IsTrue (state S.Store tx.old.conn.now).in_transaction }
     ensures same_reference { tx.new.conn.ghost_name ≡ tx.old.conn.ghost_name }
     ensures puts { Puts layout lot_table row.now
         (state S.Store tx.old.conn.now) (state S.Store tx.new.conn.now) result }
@@ -83,7 +84,8 @@ pub fn delete<S: Alter>(
     commodity: &Commodity,
     lot: &LotKey,
 ) -> Result<(), Fault>
-    requires { HasCleanDisk (state S.Store tx.old.conn.now) → IsTrue (state S.Store tx.old.conn.now).in_transaction }
+    requires { HasCleanDisk (state S.Store tx.old.conn.now)
+        → IsTrue (state S.Store tx.old.conn.now).in_transaction }
     ensures same_reference { tx.new.conn.ghost_name ≡ tx.old.conn.ghost_name }
     ensures deletes { Deletes layout lot_table (lot_key account.now commodity.now lot.now)
         (state S.Store tx.old.conn.now) (state S.Store tx.new.conn.now) result }
@@ -104,7 +106,8 @@ pub fn list_of<D: Queryable>(
     commodity: &Commodity,
 ) -> Result<Vec<LotRow>, Fault>
     ensures same_reference { D.reference conn.new ≡ D.reference conn.old }
-    ensures lists { ListsColumns layout lot_cells IsLotRow (λ b. with_key lot_cells 2 (Text account.now ∷ Text commodity.now ∷ []) b.lot)
+    ensures lists { ListsColumns layout lot_cells IsLotRow
+        (λ b. with_key lot_cells 2 (Text account.now ∷ Text commodity.now ∷ []) b.lot)
         (D.shown conn.old) (D.shown conn.new) result }
 {
     select(

@@ -39,7 +39,8 @@ impl TableRow for PlainRow {
 
 /// Puts a row. It replaces the row of the same key, if there is one.
 pub fn put<S: Alter>(tx: &mut Transaction<'_, S>, row: &PlainRow) -> Result<(), Fault>
-    requires { HasCleanDisk (state S.Store tx.old.conn.now) → IsTrue (state S.Store tx.old.conn.now).in_transaction }
+    requires { HasCleanDisk (state S.Store tx.old.conn.now)
+        → IsTrue (state S.Store tx.old.conn.now).in_transaction }
     ensures same_reference { tx.new.conn.ghost_name ≡ tx.old.conn.ghost_name }
     ensures puts { Puts layout plain_table row.now
         (state S.Store tx.old.conn.now) (state S.Store tx.new.conn.now) result }
@@ -80,7 +81,8 @@ pub fn delete<S: Alter>(
     account: &Account,
     commodity: &Commodity,
 ) -> Result<(), Fault>
-    requires { HasCleanDisk (state S.Store tx.old.conn.now) → IsTrue (state S.Store tx.old.conn.now).in_transaction }
+    requires { HasCleanDisk (state S.Store tx.old.conn.now)
+        → IsTrue (state S.Store tx.old.conn.now).in_transaction }
     ensures same_reference { tx.new.conn.ghost_name ≡ tx.old.conn.ghost_name }
     ensures deletes { Deletes layout plain_table (Text account.now ∷ Text commodity.now ∷ [])
         (state S.Store tx.old.conn.now) (state S.Store tx.new.conn.now) result }
@@ -100,7 +102,8 @@ pub fn find<D: Queryable>(
     commodity: &Commodity,
 ) -> Result<Option<PlainRow>, Fault>
     ensures same_reference { D.reference conn.new ≡ D.reference conn.old }
-    ensures finds { Finds layout IsPlainRow (λ b. with_key plain_cells 2 (Text account.now ∷ Text commodity.now ∷ []) b.plain)
+    ensures finds { Finds layout IsPlainRow
+        (λ b. with_key plain_cells 2 (Text account.now ∷ Text commodity.now ∷ []) b.plain)
         (D.shown conn.old) (D.shown conn.new) result }
 {
     find_row(
@@ -118,7 +121,8 @@ pub fn list_of<D: Queryable>(
     account: &Account,
 ) -> Result<Vec<PlainRow>, Fault>
     ensures same_reference { D.reference conn.new ≡ D.reference conn.old }
-    ensures lists { Lists layout IsPlainRow (λ b. with_key plain_cells 1 (Text account.now ∷ []) b.plain)
+    ensures lists { Lists layout IsPlainRow
+        (λ b. with_key plain_cells 1 (Text account.now ∷ []) b.plain)
         (D.shown conn.old) (D.shown conn.new) result }
 {
     select(
@@ -132,7 +136,8 @@ pub fn list_of<D: Queryable>(
 /// Returns all rows, by account and commodity.
 pub fn list<D: Queryable>(alloc: Global, conn: &mut D) -> Result<Vec<PlainRow>, Fault>
     ensures same_reference { D.reference conn.new ≡ D.reference conn.old }
-    ensures lists { Lists layout IsPlainRow (λ b. b.plain) (D.shown conn.old) (D.shown conn.new) result }
+    ensures lists { Lists layout IsPlainRow
+        (λ b. b.plain) (D.shown conn.old) (D.shown conn.new) result }
 {
     select(
         alloc,

@@ -47,7 +47,8 @@ impl TableRow for SaleRow {
 
 /// Adds a row. No row may have its entry and posting.
 pub fn add<S: Alter>(tx: &mut Transaction<'_, S>, row: &SaleRow) -> Result<(), Fault>
-    requires { HasCleanDisk (state S.Store tx.old.conn.now) → IsTrue (state S.Store tx.old.conn.now).in_transaction }
+    requires { HasCleanDisk (state S.Store tx.old.conn.now)
+        → IsTrue (state S.Store tx.old.conn.now).in_transaction }
     ensures same_reference { tx.new.conn.ghost_name ≡ tx.old.conn.ghost_name }
     ensures adds { Adds layout sale_table row.now
         (state S.Store tx.old.conn.now) (state S.Store tx.new.conn.now) result }

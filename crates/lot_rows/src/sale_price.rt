@@ -53,10 +53,12 @@ pub(crate) fn currency_cell(price: &Option<Price>) -> ValueRef<'_>
 /// The error is `Memory`, or `Damaged` exactly where the columns say no price that a book can have.
 pub(crate) fn price(alloc: Global, row: &Row) -> Result<Option<Price>, Fault>
     requires { length row.now ≡ 9 }
-    ensures ok { IfOk result (λ price. (column row.now 6 ≡ Int (kind_of price)) × (column row.now 7 ≡ amount_of price) × (column row.now 8 ≡ currency_of price)) }
+    ensures ok { IfOk result (λ price. (column row.now 6 ≡ Int (kind_of price))
+        × (column row.now 7 ≡ amount_of price) × (column row.now 8 ≡ currency_of price)) }
     ensures good { IfOk result IsPriceOrNone }
     ensures damaged { result ≡ Err Fault.Damaged → (price : Option Price) → IsPriceOrNone price
-        → ¬ ((column row.now 6 ≡ Int (kind_of price)) × (column row.now 7 ≡ amount_of price) × (column row.now 8 ≡ currency_of price)) }
+        → ¬ ((column row.now 6 ≡ Int (kind_of price)) × (column row.now 7 ≡ amount_of price)
+        × (column row.now 8 ≡ currency_of price)) }
     ensures no_device { result ≢ Err Fault.Device }
 {
     let kind: i64 = column(alloc, row, 6)?;

@@ -33,17 +33,28 @@ const MIGRATION: &str =
 ///
 /// After an error the last commit stands, and the caller drops the transaction, which rolls back the tables that were made.
 pub fn make<S: Alter>(tx: &mut Transaction<'_, S>) -> Result<(), MakeFault>
-    requires { HasCleanDisk (state S.Store tx.old.conn.now) → IsTrue (state S.Store tx.old.conn.now).in_transaction }
+    requires { HasCleanDisk (state S.Store tx.old.conn.now)
+        → IsTrue (state S.Store tx.old.conn.now).in_transaction }
     ensures same_reference { tx.new.conn.ghost_name ≡ tx.old.conn.ghost_name }
-    ensures inside { HasCleanDisk (state S.Store tx.new.conn.now) → OnOk result (IsTrue (state S.Store tx.new.conn.now).in_transaction) }
-    ensures made { HasCleanDisk (state S.Store tx.new.conn.now) → OnOk result ((state S.Store tx.old.conn.now).now.schema ≡ schema_of []
-        → IsSound (schema_of []) (state S.Store tx.old.conn.now).now.trees → Has (state S.Store tx.new.conn.now) no_rows_yet) }
-    ensures free { HasCleanDisk (state S.Store tx.new.conn.now) → OnOk result (is_taken table_names (state S.Store tx.old.conn.now).now.schema ≡ false) }
-    ensures taken { HasCleanDisk (state S.Store tx.new.conn.now) → result ≡ Err MakeFault.Taken → is_taken table_names (state S.Store tx.old.conn.now).now.schema ≡ true }
-    ensures damaged { HasCleanDisk (state S.Store tx.new.conn.now) → result ≡ Err (MakeFault.Failed Fault.Damaged) → (state S.Store tx.old.conn.now).now.schema ≢ schema_of [] }
-    ensures device { HasCleanDisk (state S.Store tx.new.conn.now) → result ≡ Err (MakeFault.Failed Fault.Device) → (state S.Store tx.old.conn.now).now.schema ≡ schema_of [] → DiskFailed (state S.Store tx.old.conn.now) (state S.Store tx.new.conn.now) }
-    ensures kept { HasCleanDisk (state S.Store tx.new.conn.now) → KeepsCommit (state S.Store tx.old.conn.now) (state S.Store tx.new.conn.now) }
-    ensures crash { Survives (state S.Store tx.old.conn.now) (state S.Store tx.new.conn.now) (λ _. ⊥) }
+    ensures inside { HasCleanDisk (state S.Store tx.new.conn.now)
+        → OnOk result (IsTrue (state S.Store tx.new.conn.now).in_transaction) }
+    ensures made { HasCleanDisk (state S.Store tx.new.conn.now)
+        → OnOk result ((state S.Store tx.old.conn.now).now.schema ≡ schema_of []
+        → IsSound (schema_of []) (state S.Store tx.old.conn.now).now.trees
+        → Has (state S.Store tx.new.conn.now) no_rows_yet) }
+    ensures free { HasCleanDisk (state S.Store tx.new.conn.now)
+        → OnOk result (is_taken table_names (state S.Store tx.old.conn.now).now.schema ≡ false) }
+    ensures taken { HasCleanDisk (state S.Store tx.new.conn.now) → result ≡ Err MakeFault.Taken
+        → is_taken table_names (state S.Store tx.old.conn.now).now.schema ≡ true }
+    ensures damaged { HasCleanDisk (state S.Store tx.new.conn.now) → result ≡ Err (MakeFault.Failed
+        Fault.Damaged) → (state S.Store tx.old.conn.now).now.schema ≢ schema_of [] }
+    ensures device { HasCleanDisk (state S.Store tx.new.conn.now) → result ≡ Err
+        (MakeFault.Failed Fault.Device) → (state S.Store tx.old.conn.now).now.schema ≡ schema_of []
+        → DiskFailed (state S.Store tx.old.conn.now) (state S.Store tx.new.conn.now) }
+    ensures kept { HasCleanDisk (state S.Store tx.new.conn.now)
+        → KeepsCommit (state S.Store tx.old.conn.now) (state S.Store tx.new.conn.now) }
+    ensures crash { Survives (state S.Store tx.old.conn.now) (state S.Store tx.new.conn.now)
+        (λ _. ⊥) }
 {
     make_each(
         tx,
@@ -102,7 +113,8 @@ pub fn add_later<S: Alter>(tx: &mut Transaction<'_, S>) -> Result<(), MakeFault>
         → DiskFailed (state S.Store tx.old.conn.now) (state S.Store tx.new.conn.now) }
     ensures kept { HasCleanDisk (state S.Store tx.new.conn.now)
         → KeepsCommit (state S.Store tx.old.conn.now) (state S.Store tx.new.conn.now) }
-    ensures crash { Survives (state S.Store tx.old.conn.now) (state S.Store tx.new.conn.now) (λ _. ⊥) }
+    ensures crash { Survives (state S.Store tx.old.conn.now) (state S.Store tx.new.conn.now)
+        (λ _. ⊥) }
 {
     make_each(tx, &[OPENING, MIGRATION])
 }

@@ -29,18 +29,28 @@ pub fn adopt<S: Alter>(
 ) -> Result<Book<S>, HandedBack<S, AdoptFault>>
     requires outside { conn.in_transaction ≡ false }
     requires unlimited { conn.step_limit ≡ None }
-    ensures tells_ok { IfOk result (λ book. HasCleanDisk (state S.Store book.conn) → TellsOf (state S.Store conn) (state S.Store book.conn) (Ok tt)) }
-    ensures tells_err { IfErr result (λ left. HasCleanDisk (state S.Store left.conn) → TellsOf (state S.Store conn) (state S.Store left.conn) (Err left.fault)) }
-    ensures taken { IfOk result (λ book. HasCleanDisk (state S.Store book.conn) → IsTaken (state S.Store conn)) }
+    ensures tells_ok { IfOk result (λ book. HasCleanDisk (state S.Store book.conn)
+        → TellsOf (state S.Store conn) (state S.Store book.conn) (Ok tt)) }
+    ensures tells_err { IfErr result (λ left. HasCleanDisk (state S.Store left.conn)
+        → TellsOf (state S.Store conn) (state S.Store left.conn) (Err left.fault)) }
+    ensures taken { IfOk result
+        (λ book. HasCleanDisk (state S.Store book.conn) → IsTaken (state S.Store conn)) }
     // Of a database that has the tables of a book.
-    ensures refused { IfErr result (λ left. HasCleanDisk (state S.Store left.conn) → left.fault ≢ AdoptFault.Device
-        → (tables : Tables) → Has (state S.Store conn) tables → TellsBook tables.book (Err left.fault)) }
-    ensures same { IfOk result (λ book. HasCleanDisk (state S.Store book.conn) → IsUnchanged (state S.Store conn) (state S.Store book.conn)) }
-    ensures handed_back { IfErr result (λ left. HasCleanDisk (state S.Store left.conn) → IsHandedBack (state S.Store conn) (state S.Store left.conn)) }
-    ensures undone { IfErr result (λ left. HasCleanDisk (state S.Store left.conn) → IsUndone (state S.Store conn) (state S.Store left.conn)) }
+    ensures refused { IfErr result
+        (λ left. HasCleanDisk (state S.Store left.conn) → left.fault ≢ AdoptFault.Device
+        → (tables : Tables) → Has (state S.Store conn) tables
+        → TellsBook tables.book (Err left.fault)) }
+    ensures same { IfOk result (λ book. HasCleanDisk (state S.Store book.conn)
+        → IsUnchanged (state S.Store conn) (state S.Store book.conn)) }
+    ensures handed_back { IfErr result (λ left. HasCleanDisk (state S.Store left.conn)
+        → IsHandedBack (state S.Store conn) (state S.Store left.conn)) }
+    ensures undone { IfErr result (λ left. HasCleanDisk (state S.Store left.conn)
+        → IsUndone (state S.Store conn) (state S.Store left.conn)) }
     ensures ready { IfOk result (λ book. book.condition ≡ Condition.Ready) }
-    ensures crash_ok { IfOk result (λ book. Survives (state S.Store conn) (state S.Store book.conn) (λ _. ⊥)) }
-    ensures crash_err { IfErr result (λ left. Survives (state S.Store conn) (state S.Store left.conn) (λ _. ⊥)) }
+    ensures crash_ok { IfOk result
+        (λ book. Survives (state S.Store conn) (state S.Store book.conn) (λ _. ⊥)) }
+    ensures crash_err { IfErr result
+        (λ left. Survives (state S.Store conn) (state S.Store left.conn) (λ _. ⊥)) }
 {
     let mut conn = conn;
     // Outside a transaction the tables are those of the last commit.
@@ -54,12 +64,16 @@ pub fn adopt<S: Alter>(
 /// Tells from the table `book` whether the database is a book of this edition.
 fn tell<S: Alter>(alloc: Global, conn: &mut Connection<S>) -> Result<(), AdoptFault>
     requires { conn.old.step_limit ≡ None }
-    ensures tells { HasCleanDisk (state S.Store conn.new) → TellsOf (state S.Store conn.old) (state S.Store conn.new) result }
+    ensures tells { HasCleanDisk (state S.Store conn.new)
+        → TellsOf (state S.Store conn.old) (state S.Store conn.new) result }
     ensures of_book { HasCleanDisk (state S.Store conn.new) → result ≢ Err AdoptFault.Device
         → (tables : Tables) → Has (state S.Store conn.old) tables → TellsBook tables.book result }
-    ensures same { HasCleanDisk (state S.Store conn.new) → OnOk result (IsUnchanged (state S.Store conn.old) (state S.Store conn.new)) }
-    ensures taken { HasCleanDisk (state S.Store conn.new) → OnOk result (IsTaken (state S.Store conn.old)) }
-    ensures undone { HasCleanDisk (state S.Store conn.new) → OnErr result (IsUndone (state S.Store conn.old) (state S.Store conn.new)) }
+    ensures same { HasCleanDisk (state S.Store conn.new)
+        → OnOk result (IsUnchanged (state S.Store conn.old) (state S.Store conn.new)) }
+    ensures taken { HasCleanDisk (state S.Store conn.new)
+        → OnOk result (IsTaken (state S.Store conn.old)) }
+    ensures undone { HasCleanDisk (state S.Store conn.new)
+        → OnErr result (IsUndone (state S.Store conn.old) (state S.Store conn.new)) }
     ensures crash { Survives (state S.Store conn.old) (state S.Store conn.new) (λ _. ⊥) }
 {
     let rows = ask(conn, "SELECT mark, edition FROM book ORDER BY mark", &[])?;

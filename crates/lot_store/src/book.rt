@@ -65,15 +65,21 @@ impl<S: Alter> Book<S> {
     /// disk fails before. Whatever the tables stand for, a verdict is by the text that they have under the key. After
     /// `Accepted` the canonical text of the command stands there.
     pub fn apply(&mut self, key: &Key, command: &Command) -> Result<Ack, ApplyFault>
-        ensures applies { Applies key.now command.now (state S.Store self.old.conn) (state S.Store self.new.conn) result }
+        ensures applies { Applies key.now command.now (state S.Store self.old.conn)
+            (state S.Store self.new.conn) result }
         // With the connection open a crash leaves the last commit, and nothing else.
-        ensures safe { IsTrue (state S.Store self.new.conn).is_open → (trees : Trees) → (state S.Store self.new.conn).may_leave trees
+        ensures safe { IsTrue (state S.Store self.new.conn).is_open → (trees : Trees)
+            → (state S.Store self.new.conn).may_leave trees
             → trees ≡ (state S.Store self.new.conn).committed.trees }
-        ensures device { HasCleanDisk (state S.Store self.new.conn) → result ≡ Err (Failed StoreFault.Device)
-            → RefusedByDevice key.now command.now (state S.Store self.old.conn) (state S.Store self.new.conn) }
-        ensures in_doubt { HasCleanDisk (state S.Store self.new.conn) → result ≡ Err (Failed StoreFault.InDoubt)
+        ensures device { HasCleanDisk (state S.Store self.new.conn)
+            → result ≡ Err (Failed StoreFault.Device)
+            → RefusedByDevice key.now command.now (state S.Store self.old.conn)
+            (state S.Store self.new.conn) }
+        ensures in_doubt { HasCleanDisk (state S.Store self.new.conn)
+            → result ≡ Err (Failed StoreFault.InDoubt)
             → DiskFailed (state S.Store self.old.conn) (state S.Store self.new.conn) }
-        ensures reopen { (result ≡ Err (Failed StoreFault.NeedsReopen)) ↔ (self.old.condition ≡ Condition.NeedsReopen) }
+        ensures reopen { (result ≡ Err (Failed StoreFault.NeedsReopen))
+            ↔ (self.old.condition ≡ Condition.NeedsReopen) }
         ensures condition { self.new.condition ≡ condition_after result }
         ensures damage { MeetsDamage key.now
             (state S.Store self.old.conn) (state S.Store self.new.conn) result }
@@ -92,13 +98,18 @@ impl<S: Alter> Book<S> {
         command: &Command,
     ) -> Result<Ack, ApplyFault>
         requires { self.old.condition ≡ Condition.Ready }
-        ensures applies { AppliesWith (IsOf kept.old) (IsOf kept.new) key.now command.now (state S.Store self.old.conn) (state S.Store self.new.conn) result }
+        ensures applies { AppliesWith (IsOf kept.old) (IsOf kept.new) key.now command.now
+            (state S.Store self.old.conn) (state S.Store self.new.conn) result }
         ensures forgets { verdict_of result ≡ None → kept.new ≡ None }
-        ensures safe { IsTrue (state S.Store self.new.conn).is_open → (trees : Trees) → (state S.Store self.new.conn).may_leave trees
+        ensures safe { IsTrue (state S.Store self.new.conn).is_open → (trees : Trees)
+            → (state S.Store self.new.conn).may_leave trees
             → trees ≡ (state S.Store self.new.conn).committed.trees }
-        ensures device { HasCleanDisk (state S.Store self.new.conn) → result ≡ Err (Failed StoreFault.Device)
-            → RefusedByDeviceWith (IsOf kept.old) key.now command.now (state S.Store self.old.conn) (state S.Store self.new.conn) }
-        ensures in_doubt { HasCleanDisk (state S.Store self.new.conn) → result ≡ Err (Failed StoreFault.InDoubt)
+        ensures device { HasCleanDisk (state S.Store self.new.conn)
+            → result ≡ Err (Failed StoreFault.Device)
+            → RefusedByDeviceWith (IsOf kept.old) key.now command.now (state S.Store self.old.conn)
+            (state S.Store self.new.conn) }
+        ensures in_doubt { HasCleanDisk (state S.Store self.new.conn)
+            → result ≡ Err (Failed StoreFault.InDoubt)
             → DiskFailed (state S.Store self.old.conn) (state S.Store self.new.conn) }
         ensures usable { result ≢ Err (Failed StoreFault.NeedsReopen) }
         ensures condition { self.new.condition ≡ condition_after result }
@@ -122,7 +133,8 @@ impl<S: Alter> Book<S> {
         asked: &Asked,
     ) -> Result<Turn, StoreFault>
         ensures turns { TurnsTo (IsOf kept.old) (IsOf kept.new) (option_copied rounding.entry)
-            (key.now, asked.now) (state S.Store self.old.conn) (state S.Store self.new.conn) result }
+            (key.now, asked.now) (state S.Store self.old.conn)
+            (state S.Store self.new.conn) result }
         ensures safe { IsTrue (state S.Store self.new.conn).is_open
             → (trees : Trees) → (state S.Store self.new.conn).may_leave trees
             → trees ≡ (state S.Store self.new.conn).committed.trees }
@@ -169,13 +181,17 @@ impl<S: Alter> Book<S> {
         &mut self,
         place: &mut P,
     ) -> Result<Option<P::Row>, StoreFault>
-        ensures steps { Steps P.Place.shown P.Place.IsGood P.Place.AreAll P.Place.IsBehind StoreFault.Damaged StoreFault.Device
+        ensures steps { Steps P.Place.shown P.Place.IsGood P.Place.AreAll P.Place.IsBehind
+            StoreFault.Damaged StoreFault.Device
             place.old place.new (state S.Store self.old.conn) (state S.Store self.new.conn) result }
-        ensures rows { StepsOverRows P.Place.shown P.Place.AreAllRows P.Place.IsBehindRows place.old place.new (state S.Store self.old.conn) (state S.Store self.new.conn) result }
-        ensures reopen { (result ≡ Err StoreFault.NeedsReopen) ↔ (self.old.condition ≡ Condition.NeedsReopen) }
+        ensures rows { StepsOverRows P.Place.shown P.Place.AreAllRows P.Place.IsBehindRows place.old
+            place.new (state S.Store self.old.conn) (state S.Store self.new.conn) result }
+        ensures reopen { (result ≡ Err StoreFault.NeedsReopen)
+            ↔ (self.old.condition ≡ Condition.NeedsReopen) }
         ensures condition { self.new.condition ≡ condition_from self.old.condition result }
         ensures sure { result ≢ Err StoreFault.InDoubt }
-        ensures left { HasCleanDisk (state S.Store self.new.conn) → OnErr result (LeavesTables (state S.Store self.old.conn) (state S.Store self.new.conn)) }
+        ensures left { HasCleanDisk (state S.Store self.new.conn) → OnErr result
+            (LeavesTables (state S.Store self.old.conn) (state S.Store self.new.conn)) }
     {
         self.ready()?;
         let found = place.next(self.alloc, &mut self.conn);
@@ -190,12 +206,15 @@ impl<S: Alter> Book<S> {
     ///
     /// After `Device`, and only then, the book needs reopening. The error is `Damaged` only where the tables stand for no book.
     pub fn extent(&mut self) -> Result<Extent, StoreFault>
-        ensures measures { Measures (state S.Store self.old.conn) (state S.Store self.new.conn) result }
-        ensures reopen { (result ≡ Err StoreFault.NeedsReopen) ↔ (self.old.condition ≡ Condition.NeedsReopen) }
+        ensures measures { Measures (state S.Store self.old.conn)
+            (state S.Store self.new.conn) result }
+        ensures reopen { (result ≡ Err StoreFault.NeedsReopen)
+            ↔ (self.old.condition ≡ Condition.NeedsReopen) }
         ensures condition { self.new.condition ≡ condition_from self.old.condition result }
         ensures sure { result ≢ Err StoreFault.InDoubt }
         ensures left { HasCleanDisk (state S.Store self.new.conn)
-            → OnErr result (LeavesTables (state S.Store self.old.conn) (state S.Store self.new.conn)) }
+            → OnErr result
+            (LeavesTables (state S.Store self.old.conn) (state S.Store self.new.conn)) }
     {
         self.ready()?;
         let measured = measure(self.alloc, &mut self.conn);
@@ -215,7 +234,8 @@ impl<S: Alter> Book<S> {
     /// Returns an error where the book needs reopening.
     pub(crate) fn ready(&self) -> Result<(), StoreFault>
         ensures value { result ≡ ready_of self.now.condition }
-        ensures settled { HasCleanDisk (state S.Store self.now.conn) → IsTrue (state S.Store self.now.conn).is_open
+        ensures settled { HasCleanDisk (state S.Store self.now.conn)
+            → IsTrue (state S.Store self.now.conn).is_open
             → (state S.Store self.now.conn).now ≡ (state S.Store self.now.conn).committed }
     {
         // Outside a transaction the tables are those of the last commit.
@@ -241,11 +261,14 @@ fn apply_to<S: Alter>(
     requires outside { HasCleanDisk (state S.Store conn.old) → conn.old.in_transaction ≡ false }
     requires unlimited { conn.old.step_limit ≡ None }
     ensures outside { HasCleanDisk (state S.Store conn.new) → conn.new.in_transaction ≡ false }
-    ensures applies { AppliesWith (IsOf kept.old) (IsOf kept.new) key.now command.now (state S.Store conn.old) (state S.Store conn.new) result }
+    ensures applies { AppliesWith (IsOf kept.old) (IsOf kept.new) key.now command.now
+        (state S.Store conn.old) (state S.Store conn.new) result }
     ensures forgets { verdict_of result ≡ None → kept.new ≡ None }
     ensures device { HasCleanDisk (state S.Store conn.new) → result ≡ Err (Failed StoreFault.Device)
-        → RefusedByDeviceWith (IsOf kept.old) key.now command.now (state S.Store conn.old) (state S.Store conn.new) }
-    ensures in_doubt { HasCleanDisk (state S.Store conn.new) → result ≡ Err (Failed StoreFault.InDoubt) → DiskFailed (state S.Store conn.old) (state S.Store conn.new) }
+        → RefusedByDeviceWith (IsOf kept.old) key.now command.now (state S.Store conn.old)
+        (state S.Store conn.new) }
+    ensures in_doubt { HasCleanDisk (state S.Store conn.new) → result ≡ Err
+        (Failed StoreFault.InDoubt) → DiskFailed (state S.Store conn.old) (state S.Store conn.new) }
     ensures usable { result ≢ Err (Failed StoreFault.NeedsReopen) }
     ensures damage { MeetsDamage key.now
         (state S.Store conn.old) (state S.Store conn.new) result }

@@ -20,17 +20,25 @@ use sqlite::{Alter, Connection, Error, ErrorCode};
 pub(crate) fn commit<S: Alter>(conn: &mut Connection<S>, writes: &[Write]) -> Result<(), StoreFault>
     requires { HasCleanDisk (state S.Store conn.old) → conn.old.in_transaction ≡ false }
     ensures outside { HasCleanDisk (state S.Store conn.new) → conn.new.in_transaction ≡ false }
-    ensures done { HasCleanDisk (state S.Store conn.new) → OnOk result (WritesDown writes.now (state S.Store conn.old) (state S.Store conn.new)) }
-    ensures kept { HasCleanDisk (state S.Store conn.new) → OnErr result (KeepsCommit (state S.Store conn.old) (state S.Store conn.new)) }
-    ensures settled { HasCleanDisk (state S.Store conn.new) → IsTrue (state S.Store conn.new).is_open → (state S.Store conn.new).now ≡ (state S.Store conn.new).committed }
-    ensures damaged { HasCleanDisk (state S.Store conn.new) → result ≡ Err Damaged → (state S.Store conn.old).step_limit ≡ None
+    ensures done { HasCleanDisk (state S.Store conn.new)
+        → OnOk result (WritesDown writes.now (state S.Store conn.old) (state S.Store conn.new)) }
+    ensures kept { HasCleanDisk (state S.Store conn.new)
+        → OnErr result (KeepsCommit (state S.Store conn.old) (state S.Store conn.new)) }
+    ensures settled { HasCleanDisk (state S.Store conn.new) → IsTrue (state S.Store
+        conn.new).is_open → (state S.Store conn.new).now ≡ (state S.Store conn.new).committed }
+    ensures damaged { HasCleanDisk (state S.Store conn.new) → result ≡ Err Damaged
+        → (state S.Store conn.old).step_limit ≡ None
         → (tables : Tables) → AreFit writes.now tables → ¬ Has (state S.Store conn.old) tables }
-    ensures device { HasCleanDisk (state S.Store conn.new) → result ≡ Err Device → (tables : Tables) → AreFit writes.now tables → Has (state S.Store conn.old) tables
-        → DiskFailed (state S.Store conn.old) (state S.Store conn.new) ⊎ Stops writes.now tables (state S.Store conn.old).now.trees (state S.Store conn.new) }
-    ensures in_doubt { HasCleanDisk (state S.Store conn.new) → result ≡ Err InDoubt → DiskFailed (state S.Store conn.old) (state S.Store conn.new) }
+    ensures device { HasCleanDisk (state S.Store conn.new) → result ≡ Err Device → (tables : Tables)
+        → AreFit writes.now tables → Has (state S.Store conn.old) tables
+        → DiskFailed (state S.Store conn.old) (state S.Store conn.new)
+        ⊎ Stops writes.now tables (state S.Store conn.old).now.trees (state S.Store conn.new) }
+    ensures in_doubt { HasCleanDisk (state S.Store conn.new) → result ≡ Err InDoubt
+        → DiskFailed (state S.Store conn.old) (state S.Store conn.new) }
     ensures usable { result ≢ Err NeedsReopen }
     ensures open { IsTrue conn.old.in_transaction → result ≡ Err Device }
-    ensures crash { Survives (state S.Store conn.old) (state S.Store conn.new) (MayWrite writes.now (state S.Store conn.old) result) }
+    ensures crash { Survives (state S.Store conn.old) (state S.Store conn.new)
+        (MayWrite writes.now (state S.Store conn.old) result) }
 {
     // A disk that has lied may have left anything, a transaction too.
     if !conn.is_autocommit() {

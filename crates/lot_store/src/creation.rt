@@ -29,17 +29,25 @@ pub fn create<S: Alter>(
 ) -> Result<Book<S>, HandedBack<S, CreateFault>>
     requires outside { conn.in_transaction ≡ false }
     requires unlimited { conn.step_limit ≡ None }
-    ensures made { IfOk result (λ book. HasCleanDisk (state S.Store book.conn) → Stands (state S.Store book.conn) []) }
+    ensures made { IfOk result
+        (λ book. HasCleanDisk (state S.Store book.conn) → Stands (state S.Store book.conn) []) }
     ensures empty { IfOk result (λ book. (state S.Store conn).now.schema ≡ schema_of []) }
-    ensures other { (state S.Store conn).now.schema ≢ schema_of [] → IfErr result (λ left. left.fault ≡ CreateFault.NotABook) }
+    ensures other { (state S.Store conn).now.schema ≢ schema_of []
+        → IfErr result (λ left. left.fault ≡ CreateFault.NotABook) }
     ensures committed { IfOk result (λ book. HasCleanDisk (state S.Store book.conn)
-        → IsTrue (state S.Store book.conn).is_open × ((state S.Store book.conn).committed ≡ (state S.Store book.conn).now)) }
+        → IsTrue (state S.Store book.conn).is_open
+        × ((state S.Store book.conn).committed ≡ (state S.Store book.conn).now)) }
     ensures ready { IfOk result (λ book. book.condition ≡ Condition.Ready) }
-    ensures refused { IfErr result (λ left. HasCleanDisk (state S.Store left.conn) → RefusedFor (state S.Store conn) (state S.Store left.conn) left.fault) }
-    ensures handed_back { IfErr result (λ left. HasCleanDisk (state S.Store left.conn) → IsHandedBack (state S.Store conn) (state S.Store left.conn)) }
-    ensures kept { IfErr result (λ left. HasCleanDisk (state S.Store left.conn) → KeepsCommit (state S.Store conn) (state S.Store left.conn)) }
-    ensures crash_ok { IfOk result (λ book. Survives (state S.Store conn) (state S.Store book.conn) (λ trees. Left trees [])) }
-    ensures crash_err { IfErr result (λ left. Survives (state S.Store conn) (state S.Store left.conn) (λ trees. Left trees [])) }
+    ensures refused { IfErr result (λ left. HasCleanDisk (state S.Store left.conn)
+        → RefusedFor (state S.Store conn) (state S.Store left.conn) left.fault) }
+    ensures handed_back { IfErr result (λ left. HasCleanDisk (state S.Store left.conn)
+        → IsHandedBack (state S.Store conn) (state S.Store left.conn)) }
+    ensures kept { IfErr result (λ left. HasCleanDisk (state S.Store left.conn)
+        → KeepsCommit (state S.Store conn) (state S.Store left.conn)) }
+    ensures crash_ok { IfOk result
+        (λ book. Survives (state S.Store conn) (state S.Store book.conn) (λ trees. Left trees [])) }
+    ensures crash_err { IfErr result
+        (λ left. Survives (state S.Store conn) (state S.Store left.conn) (λ trees. Left trees [])) }
 {
     let mut conn = conn;
     // Outside a transaction the tables are those of the last commit, before the call and after it.
@@ -73,10 +81,14 @@ fn make<S: Alter>(alloc: Global, conn: &mut Connection<S>) -> Result<(), CreateF
     requires outside { conn.old.in_transaction ≡ false }
     requires unlimited { conn.old.step_limit ≡ None }
     ensures outside { conn.new.in_transaction ≡ false }
-    ensures made { HasCleanDisk (state S.Store conn.new) → OnOk result ((state S.Store conn.old).now.schema ≡ schema_of [] → Stands (state S.Store conn.new) []) }
-    ensures committed { HasCleanDisk (state S.Store conn.new) → OnOk result (IsTrue (state S.Store conn.new).is_open × ((state S.Store conn.new).committed ≡ (state S.Store conn.new).now)) }
-    ensures refused { HasCleanDisk (state S.Store conn.new) → IfErr result (RefusedFor (state S.Store conn.old) (state S.Store conn.new)) }
-    ensures kept { HasCleanDisk (state S.Store conn.new) → OnErr result (KeepsCommit (state S.Store conn.old) (state S.Store conn.new)) }
+    ensures made { HasCleanDisk (state S.Store conn.new) → OnOk result
+        ((state S.Store conn.old).now.schema ≡ schema_of [] → Stands (state S.Store conn.new) []) }
+    ensures committed { HasCleanDisk (state S.Store conn.new) → OnOk result (IsTrue (state S.Store
+        conn.new).is_open × ((state S.Store conn.new).committed ≡ (state S.Store conn.new).now)) }
+    ensures refused { HasCleanDisk (state S.Store conn.new)
+        → IfErr result (RefusedFor (state S.Store conn.old) (state S.Store conn.new)) }
+    ensures kept { HasCleanDisk (state S.Store conn.new)
+        → OnErr result (KeepsCommit (state S.Store conn.old) (state S.Store conn.new)) }
     ensures crash { Survives (state S.Store conn.old) (state S.Store conn.new)
         (λ trees. (state S.Store conn.old).now.schema ≡ schema_of [] → Left trees []) }
 {
@@ -101,18 +113,27 @@ pub fn edition_row(alloc: Global) -> Result<BookRow, AllocError>
 /// Makes the tables in the open transaction, with the two rows of a book that is empty: that of its edition, and its place of
 /// migration, 0.
 pub fn make_tables<S: Alter>(tx: &mut Transaction<'_, S>, row: &BookRow) -> Result<(), CreateFault>
-    requires inside { HasCleanDisk (state S.Store tx.old.conn.now) → IsTrue (state S.Store tx.old.conn.now).in_transaction }
+    requires inside { HasCleanDisk (state S.Store tx.old.conn.now)
+        → IsTrue (state S.Store tx.old.conn.now).in_transaction }
     requires unlimited { tx.old.conn.now.step_limit ≡ None }
     requires row { row.now ≡ this_edition }
     ensures same_reference { tx.new.conn.ghost_name ≡ tx.old.conn.ghost_name }
-    ensures inside { HasCleanDisk (state S.Store tx.new.conn.now) → OnOk result (IsTrue (state S.Store tx.new.conn.now).in_transaction) }
-    ensures opened { HasCleanDisk (state S.Store tx.new.conn.now) → OnOk result (IsTrue (state S.Store tx.new.conn.now).is_open) }
-    ensures made { HasCleanDisk (state S.Store tx.new.conn.now) → OnOk result ((state S.Store tx.old.conn.now).now.schema ≡ schema_of []
-        → IsSound (schema_of []) (state S.Store tx.old.conn.now).now.trees → StandsForNone (state S.Store tx.new.conn.now)) }
-    ensures refused { HasCleanDisk (state S.Store tx.new.conn.now) → IsLive (state S.Store tx.old.conn.now)
-        → IfErr result (RefusedFor (state S.Store tx.old.conn.now) (state S.Store tx.new.conn.now)) }
-    ensures kept { HasCleanDisk (state S.Store tx.new.conn.now) → KeepsCommit (state S.Store tx.old.conn.now) (state S.Store tx.new.conn.now) }
-    ensures crash { Survives (state S.Store tx.old.conn.now) (state S.Store tx.new.conn.now) (λ _. ⊥) }
+    ensures inside { HasCleanDisk (state S.Store tx.new.conn.now)
+        → OnOk result (IsTrue (state S.Store tx.new.conn.now).in_transaction) }
+    ensures opened { HasCleanDisk (state S.Store tx.new.conn.now)
+        → OnOk result (IsTrue (state S.Store tx.new.conn.now).is_open) }
+    ensures made { HasCleanDisk (state S.Store tx.new.conn.now)
+        → OnOk result ((state S.Store tx.old.conn.now).now.schema ≡ schema_of []
+        → IsSound (schema_of []) (state S.Store tx.old.conn.now).now.trees
+        → StandsForNone (state S.Store tx.new.conn.now)) }
+    ensures refused { HasCleanDisk (state S.Store tx.new.conn.now)
+        → IsLive (state S.Store tx.old.conn.now)
+        → IfErr result
+        (RefusedFor (state S.Store tx.old.conn.now) (state S.Store tx.new.conn.now)) }
+    ensures kept { HasCleanDisk (state S.Store tx.new.conn.now)
+        → KeepsCommit (state S.Store tx.old.conn.now) (state S.Store tx.new.conn.now) }
+    ensures crash { Survives (state S.Store tx.old.conn.now) (state S.Store tx.new.conn.now)
+        (λ _. ⊥) }
 {
     tables::make(tx)?;
     book::put(tx, row)?;

@@ -68,11 +68,14 @@ impl<S: Alter> Book<S> {
             (W.contents writer.old) (W.contents writer.new)
             self.old.condition self.new.condition result }
         // With the connection open a crash leaves the last commit, and nothing else.
-        ensures safe { IsTrue (state S.Store self.new.conn).is_open → (trees : Trees) → (state S.Store self.new.conn).may_leave trees
+        ensures safe { IsTrue (state S.Store self.new.conn).is_open → (trees : Trees)
+            → (state S.Store self.new.conn).may_leave trees
             → trees ≡ (state S.Store self.new.conn).committed.trees }
         ensures spent { self.old.condition ≡ Condition.NeedsReopen
-            → StopsAtOnce from result (W.contents writer.old) (W.contents writer.new) × (self.new ≡ self.old) }
-        ensures usable { self.old.condition ≡ Condition.Ready → result.ending ≢ Stopped StoreFault.NeedsReopen }
+            → StopsAtOnce from result (W.contents writer.old) (W.contents writer.new)
+            × (self.new ≡ self.old) }
+        ensures usable { self.old.condition ≡ Condition.Ready
+            → result.ending ≢ Stopped StoreFault.NeedsReopen }
         // Each line is flushed as it is written, and the output stops a run only where the writer failed. No call is made
         // again that failed, but for one that was interrupted.
         ensures output { IsFlushed (W.calls writer.old) → IsWrittenOut result.ending (record {
@@ -144,9 +147,11 @@ impl<S: Alter> Book<S> {
         writer: &mut W,
     ) -> Result<Verdict, Ending>
         requires { self.old.condition ≡ Condition.Ready }
-        ensures replies { RepliesTo (IsOf kept.old) (IsOf kept.new) key.now command.now number (state S.Store self.old.conn) (state S.Store self.new.conn)
+        ensures replies { RepliesTo (IsOf kept.old) (IsOf kept.new) key.now command.now number
+            (state S.Store self.old.conn) (state S.Store self.new.conn)
             (W.contents writer.old) (W.contents writer.new) self.new.condition result }
-        ensures safe { IsTrue (state S.Store self.new.conn).is_open → (trees : Trees) → (state S.Store self.new.conn).may_leave trees
+        ensures safe { IsTrue (state S.Store self.new.conn).is_open → (trees : Trees)
+            → (state S.Store self.new.conn).may_leave trees
             → trees ≡ (state S.Store self.new.conn).committed.trees }
         ensures ready { IsOk result → self.new.condition ≡ Condition.Ready }
         ensures output { IsWrittenOutAs result (record {
@@ -192,7 +197,8 @@ fn write_reply<W: CountedWrite>(
     number: usize,
     verdict: &Verdict,
 ) -> Result<(), Ending>
-    ensures line { WritesOut (W.contents writer.old) (W.contents writer.new) (reply number verdict.now) result }
+    ensures line { WritesOut (W.contents writer.old) (W.contents writer.new)
+        (reply number verdict.now) result }
     ensures output { IsWrittenOutAs result (record {
       before = W.calls writer.old;
       after = W.calls writer.new;

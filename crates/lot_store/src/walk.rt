@@ -77,7 +77,8 @@ impl<S: Alter> Book<S> {
         ensures going { result.stage ≡ Stage.Going }
         ensures begun { (entries : List Entry) → Stands (state S.Store self.old.conn) entries
             → HasGiven S.Store AreEntries IsBehindEntries result tt entries [] }
-        ensures rows { (tables : Tables) → Has (state S.Store self.old.conn) tables → HasGivenRows S.Store IsBehindEntryRows result tt tables [] }
+        ensures rows { (tables : Tables) → Has (state S.Store self.old.conn) tables
+            → HasGivenRows S.Store IsBehindEntryRows result tt tables [] }
     {
         let place = JournalPlace::new(self.allocator());
         Walk {
@@ -94,7 +95,8 @@ impl<S: Alter> Book<S> {
         ensures going { result.stage ≡ Stage.Going }
         ensures begun { (entries : List Entry) → Stands (state S.Store self.old.conn) entries
             → HasGiven S.Store AreHoldings IsBehindHoldings result tt entries [] }
-        ensures rows { (tables : Tables) → Has (state S.Store self.old.conn) tables → HasGivenRows S.Store IsBehindHoldingRows result tt tables [] }
+        ensures rows { (tables : Tables) → Has (state S.Store self.old.conn) tables
+            → HasGivenRows S.Store IsBehindHoldingRows result tt tables [] }
     {
         let place = HoldingsPlace::new(self.allocator());
         Walk {
@@ -112,7 +114,8 @@ impl<S: Alter> Book<S> {
         ensures going { result.stage ≡ Stage.Going }
         ensures begun { (entries : List Entry) → Stands (state S.Store self.old.conn) entries
             → HasGiven S.Store AreSalesWithin IsBehindSales result (first, last) entries [] }
-        ensures rows { (tables : Tables) → Has (state S.Store self.old.conn) tables → HasGivenRows S.Store IsBehindSaleRows result (first, last) tables [] }
+        ensures rows { (tables : Tables) → Has (state S.Store self.old.conn) tables
+            → HasGivenRows S.Store IsBehindSaleRows result (first, last) tables [] }
     {
         let place = GainsPlace::new(self.allocator(), first, last);
         Walk {
@@ -129,7 +132,8 @@ impl<S: Alter> Book<S> {
         ensures going { result.stage ≡ Stage.Going }
         ensures begun { (entries : List Entry) → Stands (state S.Store self.old.conn) entries
             → HasGiven S.Store ArePricesAt IsBehindPrices result day entries [] }
-        ensures rows { (tables : Tables) → Has (state S.Store self.old.conn) tables → HasGivenRows S.Store IsBehindPriceRows result day tables [] }
+        ensures rows { (tables : Tables) → Has (state S.Store self.old.conn) tables
+            → HasGivenRows S.Store IsBehindPriceRows result day tables [] }
     {
         let place = PricesPlace::new(self.allocator(), day);
         Walk {
@@ -148,8 +152,10 @@ impl<S: Alter, P: Place> Walk<'_, S, P> {
     /// rows of the tables were given, whatever the tables stand for.
     pub fn next(&mut self) -> Result<Option<P::Row>, WalkFault>
         ensures same_reference { self.new.book.ghost_name ≡ self.old.book.ghost_name }
-        ensures walks { Walks S.Store P.Place.shown P.Place.IsGood P.Place.AreAll P.Place.IsBehind self.old self.new result }
-        ensures rows { WalksOverRows S.Store P.Place.shown P.Place.AreAllRows P.Place.IsBehindRows self.old self.new result }
+        ensures walks { Walks S.Store P.Place.shown P.Place.IsGood P.Place.AreAll P.Place.IsBehind
+            self.old self.new result }
+        ensures rows { WalksOverRows S.Store P.Place.shown P.Place.AreAllRows P.Place.IsBehindRows
+            self.old self.new result }
     {
         match self.stage {
             Stage::Going => {}

@@ -6,6 +6,7 @@ ghost use Rattle.lot_rows.specs.Tables.{Tables};
 
 /// At most one list of rows in each table stands for a book with its place of migration. No table has a row more or a row less.
 pub fn a_book_has_one_list_of_rows_in_each_table()
-    ensures { (a b : Tables) (entries : List Entry) (these : StandFor a entries) (those : StandFor b entries)
+    ensures { (a b : Tables) (entries : List Entry) (these : StandFor a entries)
+        (those : StandFor b entries)
         → these.place ≡ those.place → a ≡ b }
 {}

@@ -52,7 +52,8 @@ impl From<AllocError> for SlurpFault {
 /// For `Memory` it is proved that no other fault was there. That memory had ended is shown by the tests alone.
 pub fn slurp<R: CountedRead>(alloc: Global, reader: &mut R) -> Result<Vec<u8>, SlurpFault>
     // Where the reader's bytes are known, these are all of them, and it is at its end.
-    ensures every_byte { IfOk result (λ bytes. IfSome (R.remaining reader.old) (λ known. bytes.items ≡ known)) }
+    ensures every_byte { IfOk result
+        (λ bytes. IfSome (R.remaining reader.old) (λ known. bytes.items ≡ known)) }
     ensures end { OnOk result (IsAtEnd (R.remaining reader.new)) }
     ensures limit { IfOk result (λ bytes. vec_len bytes ≤ longest_input) }
 
@@ -61,7 +62,8 @@ pub fn slurp<R: CountedRead>(alloc: Global, reader: &mut R) -> Result<Vec<u8>, S
     ensures too_long { IsErrOf result SlurpFault.TooLong
         → IfSome (R.remaining reader.old) (λ known. longest_input < length known) }
     ensures taken { IfErr result (λ fault. (taken : List ℕ)
-        × Consumes (R.remaining reader.old) (R.remaining reader.new) taken × TookBefore fault (length taken)) }
+        × Consumes (R.remaining reader.old) (R.remaining reader.new) taken
+        × TookBefore fault (length taken)) }
 
     // Where it is known what the reader's calls came to: none failed where all was read, and each fault has its cause in them.
     ensures calls { IfOk result (λ bytes.
@@ -122,7 +124,8 @@ fn take_in(
 fn append(bytes: &mut Vec<u8>, more: &[u8]) -> Result<(), SlurpFault>
     requires { vec_len bytes.old ≤ longest_input }
     ensures ok { OnOk result (bytes.new.items ≡ bytes.old.items ++ more.now) }
-    ensures too_long { IsErrOf result SlurpFault.TooLong ↔ (longest_input < vec_len bytes.old + length more.now) }
+    ensures too_long { IsErrOf result SlurpFault.TooLong
+        ↔ (longest_input < vec_len bytes.old + length more.now) }
     ensures cause { IfErr result (λ fault. fault ≢ SlurpFault.Read) }
 {
     if more.len() > LONGEST - bytes.len() {

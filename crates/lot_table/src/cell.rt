@@ -41,14 +41,16 @@ pub trait Cell: Sized {
     fn of_cell(alloc: Global, column: ValueRef<'_>) -> Result<Self, Fault>
         ensures ok { IfOk result (λ x. owned column.entry ≡ Self.cell x) }
         ensures good { IfOk result IsGood }
-        ensures damaged { result ≡ Err Fault.Damaged → (x : Self) → IsGood x → owned column.entry ≢ Self.cell x }
+        ensures damaged { result ≡ Err Fault.Damaged → (x : Self) → IsGood x
+            → owned column.entry ≢ Self.cell x }
         ensures no_device { result ≢ Err Fault.Device };
 }
 
 /// Returns the whole number that a column holds.
 fn number(column: ValueRef<'_>) -> Result<i64, Fault>
     ensures ok { IfOk result (λ n. owned column.entry ≡ Int n) }
-    ensures err { IfErr result (λ fault. (fault ≡ Fault.Damaged) × ((n : ℤ) → owned column.entry ≢ Int n)) }
+    ensures err { IfErr result
+        (λ fault. (fault ≡ Fault.Damaged) × ((n : ℤ) → owned column.entry ≢ Int n)) }
 {
     match column {
         ValueRef::Int(n) => Ok(n),
@@ -59,7 +61,8 @@ fn number(column: ValueRef<'_>) -> Result<i64, Fault>
 /// Returns the text that a column holds, which is UTF-8.
 fn text<'a>(column: ValueRef<'a>) -> Result<&'a str, Fault>
     ensures ok { IfOk result (λ t. owned column.entry ≡ Text t.now) }
-    ensures err { IfErr result (λ fault. (fault ≡ Fault.Damaged) × ((t : List ℕ) → IsUtf8 t → owned column.entry ≢ Text t)) }
+    ensures err { IfErr result (λ fault.
+        (fault ≡ Fault.Damaged) × ((t : List ℕ) → IsUtf8 t → owned column.entry ≢ Text t)) }
 {
     match column {
         ValueRef::Text(bytes) => match std::str::from_utf8(bytes) {
@@ -319,7 +322,8 @@ pub fn column<T: Cell>(alloc: Global, row: &Row, at: usize) -> Result<T, Fault>
     requires { at < length row.now }
     ensures ok { IfOk result (λ x. column row.now at ≡ T.Cell.cell x) }
     ensures good { IfOk result T.Cell.IsGood }
-    ensures damaged { result ≡ Err Fault.Damaged → (x : T) → T.Cell.IsGood x → column row.now at ≢ T.Cell.cell x }
+    ensures damaged { result ≡ Err Fault.Damaged → (x : T) → T.Cell.IsGood x
+        → column row.now at ≢ T.Cell.cell x }
     ensures no_device { result ≢ Err Fault.Device }
 {
     T::of_cell(alloc, row.get_ref(at)?)

@@ -37,13 +37,19 @@ impl From<Error> for MakeFault {
 ///
 /// After an error the last commit stands; the caller drops the transaction, which rolls back what was made.
 pub fn make_each<S: Alter>(tx: &mut Transaction<'_, S>, texts: &[&str]) -> Result<(), MakeFault>
-    requires { HasCleanDisk (state S.Store tx.old.conn.now) → IsTrue (state S.Store tx.old.conn.now).in_transaction }
+    requires { HasCleanDisk (state S.Store tx.old.conn.now)
+        → IsTrue (state S.Store tx.old.conn.now).in_transaction }
     ensures same_reference { tx.new.conn.ghost_name ≡ tx.old.conn.ghost_name }
-    ensures inside { HasCleanDisk (state S.Store tx.new.conn.now) → OnOk result (IsTrue (state S.Store tx.new.conn.now).in_transaction) }
-    ensures ran { HasCleanDisk (state S.Store tx.new.conn.now) → OnOk result (RanEach S.Store (map (λ t. t.now) texts.now) tx.old.conn.now tx.new.conn.now) }
-    ensures halted { HasCleanDisk (state S.Store tx.new.conn.now) → IfErr result (HaltedIn S.Store (map (λ t. t.now) texts.now) tx.old.conn.now tx.new.conn.now) }
-    ensures kept { HasCleanDisk (state S.Store tx.new.conn.now) → KeepsCommit (state S.Store tx.old.conn.now) (state S.Store tx.new.conn.now) }
-    ensures crash { Survives (state S.Store tx.old.conn.now) (state S.Store tx.new.conn.now) (λ _. ⊥) }
+    ensures inside { HasCleanDisk (state S.Store tx.new.conn.now)
+        → OnOk result (IsTrue (state S.Store tx.new.conn.now).in_transaction) }
+    ensures ran { HasCleanDisk (state S.Store tx.new.conn.now) → OnOk result
+        (RanEach S.Store (map (λ t. t.now) texts.now) tx.old.conn.now tx.new.conn.now) }
+    ensures halted { HasCleanDisk (state S.Store tx.new.conn.now) → IfErr result
+        (HaltedIn S.Store (map (λ t. t.now) texts.now) tx.old.conn.now tx.new.conn.now) }
+    ensures kept { HasCleanDisk (state S.Store tx.new.conn.now)
+        → KeepsCommit (state S.Store tx.old.conn.now) (state S.Store tx.new.conn.now) }
+    ensures crash { Survives (state S.Store tx.old.conn.now) (state S.Store tx.new.conn.now)
+        (λ _. ⊥) }
 {
     'each: for text in texts {
         make_one(tx, text)?;
@@ -53,13 +59,19 @@ pub fn make_each<S: Alter>(tx: &mut Transaction<'_, S>, texts: &[&str]) -> Resul
 
 /// Makes one table.
 fn make_one<S: Alter>(tx: &mut Transaction<'_, S>, text: &str) -> Result<usize, MakeFault>
-    requires { HasCleanDisk (state S.Store tx.old.conn.now) → IsTrue (state S.Store tx.old.conn.now).in_transaction }
+    requires { HasCleanDisk (state S.Store tx.old.conn.now)
+        → IsTrue (state S.Store tx.old.conn.now).in_transaction }
     ensures same_reference { tx.new.conn.ghost_name ≡ tx.old.conn.ghost_name }
-    ensures inside { HasCleanDisk (state S.Store tx.new.conn.now) → OnOk result (StaysInside (state S.Store tx.old.conn.now) (state S.Store tx.new.conn.now)) }
-    ensures ran { HasCleanDisk (state S.Store tx.new.conn.now) → IfOk result (λ changed. Executes text.now [] (state S.Store tx.old.conn.now) (state S.Store tx.new.conn.now) (Ok changed)) }
-    ensures refused { HasCleanDisk (state S.Store tx.new.conn.now) → IfErr result (RefusedMaking text.now (state S.Store tx.old.conn.now) (state S.Store tx.new.conn.now)) }
-    ensures err { HasCleanDisk (state S.Store tx.new.conn.now) → OnErr result (IsUndone (state S.Store tx.old.conn.now) (state S.Store tx.new.conn.now)) }
-    ensures crash { Survives (state S.Store tx.old.conn.now) (state S.Store tx.new.conn.now) (λ _. ⊥) }
+    ensures inside { HasCleanDisk (state S.Store tx.new.conn.now) → OnOk result
+        (StaysInside (state S.Store tx.old.conn.now) (state S.Store tx.new.conn.now)) }
+    ensures ran { HasCleanDisk (state S.Store tx.new.conn.now) → IfOk result (λ changed. Executes
+        text.now [] (state S.Store tx.old.conn.now) (state S.Store tx.new.conn.now) (Ok changed)) }
+    ensures refused { HasCleanDisk (state S.Store tx.new.conn.now) → IfErr result
+        (RefusedMaking text.now (state S.Store tx.old.conn.now) (state S.Store tx.new.conn.now)) }
+    ensures err { HasCleanDisk (state S.Store tx.new.conn.now)
+        → OnErr result (IsUndone (state S.Store tx.old.conn.now) (state S.Store tx.new.conn.now)) }
+    ensures crash { Survives (state S.Store tx.old.conn.now) (state S.Store tx.new.conn.now)
+        (λ _. ⊥) }
 {
     let changed = tx.execute(text, &[])?;
     Ok(changed)

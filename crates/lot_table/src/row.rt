@@ -23,7 +23,8 @@ pub trait TableRow: Sized + Drop {
     fn read(alloc: Global, row: &Row) -> Result<Self, Fault>
         ensures ok { IfOk result (λ x. row.now ≡ Self.encode x) }
         ensures good { IfOk result IsGood }
-        ensures damaged { result ≡ Err Fault.Damaged → (x : Self) → IsGood x → row.now ≢ Self.encode x }
+        ensures damaged { result ≡ Err Fault.Damaged → (x : Self) → IsGood x
+            → row.now ≢ Self.encode x }
         ensures no_device { result ≢ Err Fault.Device };
 }
 
@@ -33,7 +34,8 @@ pub trait TableRow: Sized + Drop {
 pub fn read_all<R: TableRow>(alloc: Global, rows: &[Row]) -> Result<Vec<R>, Fault>
     ensures ok { IfOk result (λ found. rows.now ≡ map R.TableRow.encode found.items) }
     ensures good { IfOk result (λ found. All R.TableRow.IsGood found.items) }
-    ensures damaged { result ≡ Err Fault.Damaged → (xs : List R) → All R.TableRow.IsGood xs → rows.now ≢ map R.TableRow.encode xs }
+    ensures damaged { result ≡ Err Fault.Damaged → (xs : List R) → All R.TableRow.IsGood xs
+        → rows.now ≢ map R.TableRow.encode xs }
     ensures no_device { result ≢ Err Fault.Device }
 {
     let mut found = Vec::new(alloc);
@@ -54,7 +56,8 @@ pub fn select<D: Queryable, R: TableRow>(
 ) -> Result<Vec<R>, Fault>
     requires { IsSelect text.now }
     ensures same_reference { D.reference conn.new ≡ D.reference conn.old }
-    ensures selects { Selects R.TableRow.encode R.TableRow.IsGood (λ rows found. found.items ≡ rows) (λ found. All R.TableRow.IsGood found.items)
+    ensures selects { Selects R.TableRow.encode R.TableRow.IsGood (λ rows found. found.items ≡ rows)
+        (λ found. All R.TableRow.IsGood found.items)
         text.now (bound params.now) (D.shown conn.old) (D.shown conn.new) result }
 {
     let rows = ask(conn, text, params)?;
@@ -72,7 +75,8 @@ pub fn find<D: Queryable, R: TableRow>(
 ) -> Result<Option<R>, Fault>
     requires { IsSelect text.now }
     ensures same_reference { D.reference conn.new ≡ D.reference conn.old }
-    ensures selects { Selects R.TableRow.encode R.TableRow.IsGood (λ rows found. found ≡ slice_get rows 0) (λ found. IfSome found R.TableRow.IsGood)
+    ensures selects { Selects R.TableRow.encode R.TableRow.IsGood
+        (λ rows found. found ≡ slice_get rows 0) (λ found. IfSome found R.TableRow.IsGood)
         text.now (bound params.now) (D.shown conn.old) (D.shown conn.new) result }
 {
     let rows = select(alloc, conn, text, params)?;

@@ -20,9 +20,11 @@ pub fn change<S: Alter>(
     text: &str,
     params: &[ValueRef<'_>],
 ) -> Result<(), Fault>
-    requires { HasCleanDisk (state S.Store tx.old.conn.now) → IsTrue (state S.Store tx.old.conn.now).in_transaction }
+    requires { HasCleanDisk (state S.Store tx.old.conn.now)
+        → IsTrue (state S.Store tx.old.conn.now).in_transaction }
     ensures same_reference { tx.new.conn.ghost_name ≡ tx.old.conn.ghost_name }
-    ensures runs { Runs text.now (bound params.now) (state S.Store tx.old.conn.now) (state S.Store tx.new.conn.now) result }
+    ensures runs { Runs text.now (bound params.now) (state S.Store tx.old.conn.now)
+        (state S.Store tx.new.conn.now) result }
 {
     tx.execute(text, params)?;
     Ok(())
@@ -43,7 +45,8 @@ pub trait Queryable {
         requires { IsSelect text.now }
         ensures same_reference { reference self.new ≡ reference self.old }
         ensures shown { HasCleanDisk (shown self.new)
-            → IfOk result (λ rows. Shown text.now (bound params.now) (shown self.old) (shown self.new)
+            → IfOk result
+            (λ rows. Shown text.now (bound params.now) (shown self.old) (shown self.new)
             rows.items) }
         ensures same { HasCleanDisk (shown self.new)
             → OnOk result (IsUnchanged (shown self.old) (shown self.new)) }
@@ -89,7 +92,8 @@ pub fn ask<D: Queryable>(
     requires { IsSelect text.now }
     ensures same_reference { D.reference conn.new ≡ D.reference conn.old }
     ensures shown { HasCleanDisk (D.shown conn.new)
-        → IfOk result (λ rows. Shown text.now (bound params.now) (D.shown conn.old) (D.shown conn.new)
+        → IfOk result
+        (λ rows. Shown text.now (bound params.now) (D.shown conn.old) (D.shown conn.new)
         rows.items) }
     ensures same { HasCleanDisk (D.shown conn.new)
         → OnOk result (IsUnchanged (D.shown conn.old) (D.shown conn.new)) }

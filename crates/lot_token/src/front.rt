@@ -13,7 +13,8 @@ use crate::token::{Mark, Token, Uncut};
 /// The error comes where the line can't be cut there.
 #[tactic(auto, unfolding(crate::specs::Cutting::next_of))]
 pub(crate) fn next_token(line: &str) -> Result<Option<(Token<'_>, &str)>, Uncut>
-    ensures { MatchResult result (λ next. next_of line.now ≡ Some (option_map seen next)) (λ _. next_of line.now ≡ None) }
+    ensures { MatchResult result (λ next. next_of line.now ≡ Some (option_map seen next))
+        (λ _. next_of line.now ≡ None) }
 {
     let (_, rest) = line.split_at(blanks_len(line.as_bytes()));
     match rest.as_bytes() {

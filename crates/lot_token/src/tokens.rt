@@ -46,7 +46,8 @@ impl<'t, 'a> Tokens<'t, 'a> {
 
     /// Returns the first token and those behind it, or none where there is no token left.
     pub fn split_first(&self) -> Option<(Token<'a>, Tokens<'t, 'a>)>
-        ensures { MatchOption result (self.now ≡ []) (λ next. self.now ≡ lexeme_of next.0 ∷ next.1) }
+        ensures { MatchOption result (self.now ≡ [])
+            (λ next. self.now ≡ lexeme_of next.0 ∷ next.1) }
     {
         let rest = self.rest;
         if let [token, first @ ..] = self.first {

@@ -16,7 +16,8 @@ pub(crate) fn list_account(
     rows: &mut Vec<Holding>,
 ) -> Result<(), AllocError>
     ensures { OnOk result
-        (map entry_of rows.new.items ≡ map entry_of rows.old.items ++ entries_in account.now (as_entries held.items)) }
+        (map entry_of rows.new.items ≡ map entry_of rows.old.items
+        ++ entries_in account.now (as_entries held.items)) }
 {
     for (commodity, lot, units) in held {
         rows.push(Holding {

@@ -44,12 +44,15 @@ impl Touched {
 
     /// Adds what a posting looks at. The error is out of memory.
     fn add(&mut self, posting: &Posting) -> Result<(), AllocError>
-        ensures accounts { OnOk result (Adds text_cmp self.old.accounts (posting.now.account ∷ []) self.new.accounts) }
+        ensures accounts { OnOk result
+            (Adds text_cmp self.old.accounts (posting.now.account ∷ []) self.new.accounts) }
         ensures declared { OnOk result (self.new.declared ≡ self.old.declared) }
         ensures pairs { OnOk result
-            (Adds pair_cmp self.old.pairs (pair_of posting.now.account posting.now.amount) self.new.pairs) }
+            (Adds pair_cmp self.old.pairs
+            (pair_of posting.now.account posting.now.amount) self.new.pairs) }
         ensures plain { OnOk result
-            (Adds text_cmp self.old.plain (if_elided posting.now.account posting.now.amount) self.new.plain) }
+            (Adds text_cmp self.old.plain
+            (if_elided posting.now.account posting.now.amount) self.new.plain) }
     {
         self.accounts.insert(posting.account.copy()?)?;
         match &posting.amount {
@@ -67,10 +70,13 @@ impl Touched {
 
     /// Adds what postings look at. The error is out of memory.
     fn add_all(&mut self, postings: &[Posting]) -> Result<(), AllocError>
-        ensures accounts { OnOk result (Adds text_cmp self.old.accounts (accounts_of postings.now) self.new.accounts) }
+        ensures accounts { OnOk result
+            (Adds text_cmp self.old.accounts (accounts_of postings.now) self.new.accounts) }
         ensures declared { OnOk result (self.new.declared ≡ self.old.declared) }
-        ensures pairs { OnOk result (Adds pair_cmp self.old.pairs (pairs_of postings.now) self.new.pairs) }
-        ensures plain { OnOk result (Adds text_cmp self.old.plain (elided_of postings.now) self.new.plain) }
+        ensures pairs { OnOk result
+            (Adds pair_cmp self.old.pairs (pairs_of postings.now) self.new.pairs) }
+        ensures plain { OnOk result
+            (Adds text_cmp self.old.plain (elided_of postings.now) self.new.plain) }
     {
         for posting in postings {
             self.add(posting)?;
@@ -81,10 +87,14 @@ impl Touched {
 
 /// Returns what a command looks at. The error is out of memory.
 pub fn touches(alloc: Global, command: &Command) -> Result<Touched, AllocError>
-    ensures accounts { IfOk result (λ touched. IsFromIterResult text_cmp (accounts_in command.now) touched.accounts) }
-    ensures declared { IfOk result (λ touched. IsFromIterResult text_cmp (declared_in command.now) touched.declared) }
-    ensures pairs { IfOk result (λ touched. IsFromIterResult pair_cmp (pairs_in command.now) touched.pairs) }
-    ensures plain { IfOk result (λ touched. IsFromIterResult text_cmp (plain_in command.now) touched.plain) }
+    ensures accounts { IfOk result
+        (λ touched. IsFromIterResult text_cmp (accounts_in command.now) touched.accounts) }
+    ensures declared { IfOk result
+        (λ touched. IsFromIterResult text_cmp (declared_in command.now) touched.declared) }
+    ensures pairs { IfOk result
+        (λ touched. IsFromIterResult pair_cmp (pairs_in command.now) touched.pairs) }
+    ensures plain { IfOk result
+        (λ touched. IsFromIterResult text_cmp (plain_in command.now) touched.plain) }
 {
     let mut touched = Touched::new(alloc);
     match command {

@@ -80,7 +80,8 @@ impl View {
 
     /// Puts the state of an account. The error is out of memory; nothing changes then.
     pub fn put_account(&mut self, account: &Account, standing: Standing) -> Result<(), AllocError>
-        ensures ok { OnOk result (known self.new ≡ with_standing account.now standing (known self.old)) }
+        ensures ok { OnOk result
+            (known self.new ≡ with_standing account.now standing (known self.old)) }
         ensures openings { (known_with_openings self.new).opening
             ≡ (known_with_openings self.old).opening }
         ensures err { OnErr result (known self.new ≡ known self.old) }
@@ -97,7 +98,8 @@ impl View {
         commodity: &Commodity,
         day: Day,
     ) -> Result<(), AllocError>
-        ensures ok { OnOk result (known self.new ≡ with_head account.now commodity.now day (known self.old)) }
+        ensures ok { OnOk result
+            (known self.new ≡ with_head account.now commodity.now day (known self.old)) }
         ensures openings { (known_with_openings self.new).opening
             ≡ (known_with_openings self.old).opening }
         ensures err { OnErr result (known self.new ≡ known self.old) }
@@ -127,17 +129,24 @@ impl View {
         opening: u64,
     ) -> Result<(), InventoryFault>
         ensures ok { OnOk result
-            (known self.new ≡ with_position account.now commodity.now (option_copied lot.entry) units (known self.old)) }
+            (known self.new ≡ with_position account.now commodity.now
+            (option_copied lot.entry) units (known self.old)) }
         ensures openings { OnOk result ((other what : List ℕ)
             → HaveSameOpenings what ((known self.new).held other)
             (with_opening (known_with_openings self.old)
-            (record { account = account.now; commodity = commodity.now; lot = option_copied lot.entry })
+            (record {
+              account = account.now;
+              commodity = commodity.now;
+              lot = option_copied lot.entry;
+            })
             opening other what)
             ((known_with_openings self.new).opening other what)) }
         ensures good { IsOk result
-            → IsUnits (units_at ((known self.old).held account.now) (commodity.now, option_copied lot.entry) +ℤ units) }
+            → IsUnits (units_at ((known self.old).held account.now)
+            (commodity.now, option_copied lot.entry) +ℤ units) }
         ensures range { IsErrOf result Range
-            ↔ (IsUnits (units_at ((known self.old).held account.now) (commodity.now, option_copied lot.entry) +ℤ units) → ⊥) }
+            ↔ (IsUnits (units_at ((known self.old).held account.now)
+            (commodity.now, option_copied lot.entry) +ℤ units) → ⊥) }
         ensures err { OnErr result (known_with_openings self.new ≡ known_with_openings self.old) }
     {
         let sum = match self.units(account, commodity, lot).checked_add(units) {
@@ -161,7 +170,8 @@ impl View {
     /// key. The error is out of memory, and the view is then lost.
     pub fn record(mut self, command: &Command, change: &Change) -> Result<View, AllocError>
         requires { (known self).entries < most_entries }
-        ensures facts { IfOk result (λ view. known view ≡ recorded (known self) command.now change.now) }
+        ensures facts { IfOk result
+            (λ view. known view ≡ recorded (known self) command.now change.now) }
         ensures openings { IfOk result (λ view. (account commodity : List ℕ)
             → HaveSameOpenings commodity ((known view).held account)
             (with_listed change.now.openings (known_with_openings self).opening account commodity)
@@ -218,7 +228,8 @@ impl View {
 
     /// Returns the units at a position, zero where it holds none.
     pub fn units(&self, account: &Account, commodity: &Commodity, lot: Option<&LotKey>) -> Units
-        ensures { result ≡ units_at ((known self.now).held account.now) (commodity.now, option_copied lot.entry) }
+        ensures { result ≡ units_at ((known self.now).held account.now)
+            (commodity.now, option_copied lot.entry) }
     {
         units_of(&self.held, account, commodity, lot)
     }
@@ -382,7 +393,8 @@ fn keep_openings(
     alloc: Global,
     listed: &BTreeMap<Position, u64>,
 ) -> Result<(), AllocError>
-    ensures units { OnOk result ((account : List ℕ) → held_in held.new account ≡ held_in held.old account) }
+    ensures units { OnOk result ((account : List ℕ)
+        → held_in held.new account ≡ held_in held.old account) }
     ensures openings { OnOk result ((account commodity : List ℕ)
         → HaveSameOpenings commodity (held_in held.new account)
         (with_listed listed.now (openings_in held.old) account commodity)
@@ -417,7 +429,8 @@ fn set_day(
 ) -> Result<(), AllocError>
     ensures ok { OnOk result ((other what : List ℕ) → day_in heads.new other what
         ≡ if same_text other account.now && same_text what commodity.now then Some day else day_in heads.old other what) }
-    ensures err { OnErr result ((other what : List ℕ) → day_in heads.new other what ≡ day_in heads.old other what) }
+    ensures err { OnErr result ((other what : List ℕ)
+        → day_in heads.new other what ≡ day_in heads.old other what) }
 {
     match heads.get_mut(account) {
         Some(days) => {
@@ -439,8 +452,10 @@ fn units_of(
     commodity: &Commodity,
     lot: Option<&LotKey>,
 ) -> Units
-    ensures value { result ≡ units_at (held_in held.now account.now) (commodity.now, option_copied lot.entry) }
-    ensures held { finite.get (held_in held.now account.now) (commodity.now, option_copied lot.entry) ≡ non_zero result }
+    ensures value { result
+        ≡ units_at (held_in held.now account.now) (commodity.now, option_copied lot.entry) }
+    ensures held { finite.get (held_in held.now account.now)
+        (commodity.now, option_copied lot.entry) ≡ non_zero result }
 {
     match held.get(account) {
         Some(inventory) => inventory.units(commodity, lot),
@@ -480,7 +495,8 @@ fn set_units(
         ≡ if same_text other account.now
         then with_lot (stock_in held.old other) (commodity.now, option_copied lot.entry) units opening
         else stock_in held.old other) }
-    ensures err { OnErr result ((other : List ℕ) → stock_in held.new other ≡ stock_in held.old other) }
+    ensures err { OnErr result ((other : List ℕ)
+        → stock_in held.new other ≡ stock_in held.old other) }
 {
     match held.get_mut(account) {
         Some(inventory) => inventory.set(commodity, lot, units, opening)?,

@@ -141,7 +141,8 @@ fn sale_of<S: Alter>(alloc: Global, conn: &mut Connection<S>, row: SaleRow) -> R
 /// The error is `Damaged`, exactly where some leg isn't at a lot, or `Memory`.
 fn legs_at(alloc: Global, rows: &[LegRow]) -> Result<Vec<(LotKey, Units)>, Fault>
     ensures ok { IfOk result (λ legs. map taken rows.now ≡ map at_lot legs.items) }
-    ensures damaged { result ≡ Err Fault.Damaged → (legs : List (LotKeyOf × ℤ)) → map taken rows.now ≢ map at_lot legs }
+    ensures damaged { result ≡ Err Fault.Damaged → (legs : List (LotKeyOf × ℤ))
+        → map taken rows.now ≢ map at_lot legs }
     ensures no_device { result ≢ Err Fault.Device }
 {
     let mut legs = Vec::new(alloc);

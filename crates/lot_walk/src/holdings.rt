@@ -79,8 +79,10 @@ impl HoldingsPlace {
 
     /// Reads the rows of plain units and the first lot, unless they are read.
     fn begin<S: Alter>(&mut self, alloc: Global, conn: &mut Connection<S>) -> Result<(), Fault>
-        ensures begins { Begins self.old self.new (state S.Store conn.old) (state S.Store conn.new) result }
-        ensures rows { BeginsOverRows self.old self.new (state S.Store conn.old) (state S.Store conn.new) result }
+        ensures begins { Begins self.old self.new (state S.Store conn.old)
+            (state S.Store conn.new) result }
+        ensures rows { BeginsOverRows self.old self.new (state S.Store conn.old)
+            (state S.Store conn.new) result }
     {
         if self.has_begun {
             return Ok(());

@@ -72,7 +72,8 @@ impl Place for JournalPlace {
 fn entry_of(alloc: Global, row: EntryRow) -> Result<Entry, Fault>
     ensures ok { IfOk result (λ entry. said entry ≡ row) }
     ensures good { IfOk result HasCanonicalText }
-    ensures damaged { result ≡ Err Fault.Damaged → (command : CommandOf) → IsSayable command → row.body ≢ canonical command }
+    ensures damaged { result ≡ Err Fault.Damaged → (command : CommandOf) → IsSayable command
+        → row.body ≢ canonical command }
     ensures no_device { result ≢ Err Fault.Device }
 {
     let body = String::from_str(alloc, row.body.as_str())?;
@@ -92,7 +93,8 @@ fn entry_of(alloc: Global, row: EntryRow) -> Result<Entry, Fault>
 /// The error is `Damaged` where it isn't, or `Memory`.
 fn check_canonical(alloc: Global, text: &str) -> Result<(), Fault>
     ensures ok { IfOk result (λ _. IsCanonical text.now) }
-    ensures damaged { result ≡ Err Fault.Damaged → (command : CommandOf) → IsSayable command → text.now ≢ canonical command }
+    ensures damaged { result ≡ Err Fault.Damaged → (command : CommandOf) → IsSayable command
+        → text.now ≢ canonical command }
     ensures no_device { result ≢ Err Fault.Device }
 {
     canonical_text_reads_as_its_command();

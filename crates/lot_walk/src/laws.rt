@@ -28,18 +28,21 @@ ghost use Rattle.lot_walk.specs.declared.price.PairPrice.{PairPrice};
 
 /// Tables stand for at most one book: what a file says leaves no choice of its commands, of their keys or of their legs.
 pub fn tables_stand_for_at_most_one_book()
-    ensures { (tables : Tables) (a b : List Entry) → IsBook a → IsBook b → StandFor tables a → StandFor tables b → a ≡ b }
+    ensures { (tables : Tables) (a b : List Entry) → IsBook a → IsBook b → StandFor tables a
+        → StandFor tables b → a ≡ b }
 {}
 
 /// What a book holds at a position is the sum of all legs there, and has no row where that is zero.
 pub fn a_holding_is_the_sum_of_its_legs()
-    ensures { (entries : List Entry) (rows : List Holding) (position : Position) → IsHoldings entries rows
+    ensures { (entries : List Entry) (rows : List Holding) (position : Position)
+        → IsHoldings entries rows
         → lookup (same_position position) (map entry_of rows) ≡ non_zero (sum_in entries position) }
 {}
 
 /// At most one list of rows is what a book holds.
 pub fn a_book_has_one_list_of_holdings()
-    ensures { (entries : List Entry) (a b : List Holding) → IsHoldings entries a → IsHoldings entries b → a ≡ b }
+    ensures { (entries : List Entry) (a b : List Holding) → IsHoldings entries a
+        → IsHoldings entries b → a ≡ b }
 {}
 
 /// The units that a book's sales took of a lot, with their sign, and the units that its holdings say are left add up to those
@@ -51,7 +54,8 @@ pub fn what_was_bought_into_a_lot_was_sold_or_is_held()
     ensures { (migration : Migration) (entries : List Entry) (booked : List Booked)
         (sales : List (ℕ × (ℕ × SaleParts))) (rows : List Holding)
         (account commodity : List ℕ) (lot : LotKey)
-        → BooksEntries migration [] entries booked → SalesOf migration entries sales → IsHoldings entries rows
+        → BooksEntries migration [] entries booked → SalesOf migration entries sales
+        → IsHoldings entries rows
         → left_of rows (lot_at account commodity lot)
         ≡ bought_into booked (lot_at account commodity lot) +ℤ taken_of sales (lot_at account commodity lot) }
 {}
@@ -64,19 +68,22 @@ pub fn a_pair_has_one_price_at_a_day()
 
 /// At most one list of rows is the prices of a book at a day.
 pub fn a_book_has_one_list_of_prices_at_a_day()
-    ensures { (entries : List Entry) (day : ℤ) (a b : List PairPrice) → ArePrices entries day a → ArePrices entries day b → a ≡ b }
+    ensures { (entries : List Entry) (day : ℤ) (a b : List PairPrice) → ArePrices entries day a
+        → ArePrices entries day b → a ≡ b }
 {}
 
 /// The rows of plain units and of lots of tables that stand for a book, merged in the order of positions, are what the book
 /// holds.
 pub fn merged_rows_are_what_a_book_holds()
-    ensures { (tables : Tables) (entries : List Entry) → StandFor tables entries → IsHoldings entries (merged tables.plain tables.lot) }
+    ensures { (tables : Tables) (entries : List Entry) → StandFor tables entries
+        → IsHoldings entries (merged tables.plain tables.lot) }
 {}
 
 /// Take the rows of prices of tables that stand for a book, up to a day. The last row of each pair is the price of that pair at
 /// the day, and these are all prices at the day.
 pub fn last_rows_of_pairs_are_the_prices_at_a_day()
-    ensures { (tables : Tables) (entries : List Entry) (day : ℤ) → StandFor tables entries → ArePrices entries day (prices_by day tables.price) }
+    ensures { (tables : Tables) (entries : List Entry) (day : ℤ) → StandFor tables entries
+        → ArePrices entries day (prices_by day tables.price) }
 {}
 
 /// A book has at most one list of sales on the days of a range, whatever its place of migration.
@@ -87,7 +94,8 @@ pub fn a_book_has_one_list_of_sales_in_a_range()
 
 /// A range whose last day is before its first has no sales.
 pub fn a_range_that_ends_before_it_begins_has_no_sales()
-    ensures { (entries : List Entry) (first last : ℤ) (sales : List NumberedSale) → last <ℤ first → AreSalesWithin (Some first, Some last) entries sales
+    ensures { (entries : List Entry) (first last : ℤ) (sales : List NumberedSale) → last <ℤ first
+        → AreSalesWithin (Some first, Some last) entries sales
         → sales ≡ [] }
 {}
 

@@ -43,7 +43,10 @@ pub trait Place: Drop {
         alloc: Global,
         conn: &mut Connection<S>,
     ) -> Result<Option<Self::Row>, Fault>
-        ensures steps { Steps shown IsGood AreAll IsBehind Damaged Device self.old self.new (state S.Store conn.old) (state S.Store conn.new) result }
-        ensures rows { StepsOverRows shown AreAllRows IsBehindRows self.old self.new (state S.Store conn.old) (state S.Store conn.new) result }
-        ensures left { HasCleanDisk (state S.Store conn.new) → OnErr result (StaysOrGoesBack (state S.Store conn.old) (state S.Store conn.new)) };
+        ensures steps { Steps shown IsGood AreAll IsBehind Damaged Device self.old self.new
+            (state S.Store conn.old) (state S.Store conn.new) result }
+        ensures rows { StepsOverRows shown AreAllRows IsBehindRows self.old self.new
+            (state S.Store conn.old) (state S.Store conn.new) result }
+        ensures left { HasCleanDisk (state S.Store conn.new)
+            → OnErr result (StaysOrGoesBack (state S.Store conn.old) (state S.Store conn.new)) };
 }

@@ -83,8 +83,10 @@ impl PricesPlace {
 
     /// Reads one more row, if one is left.
     fn step<S: Alter>(&mut self, conn: &mut Connection<S>) -> Result<Progress, Fault>
-        ensures progress { Progresses self.old self.new (state S.Store conn.old) (state S.Store conn.new) result }
-        ensures rows { ProgressesOverRows self.old self.new (state S.Store conn.old) (state S.Store conn.new) result }
+        ensures progress { Progresses self.old self.new (state S.Store conn.old)
+            (state S.Store conn.new) result }
+        ensures rows { ProgressesOverRows self.old self.new (state S.Store conn.old)
+            (state S.Store conn.new) result }
     {
         if self.is_past_last {
             return Ok(self.give_last());

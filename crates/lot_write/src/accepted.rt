@@ -37,7 +37,8 @@ pub fn writes(
     change: &Change,
 ) -> Result<Vec<Write>, Fault>
     requires { (known view.now).entries < most_entries }
-    ensures writes { IfOk result (λ writes. writes.items ≡ writes_of (known view.now) key.now command.now change.now) }
+    ensures writes { IfOk result
+        (λ writes. writes.items ≡ writes_of (known view.now) key.now command.now change.now) }
     ensures good { IfOk result (λ writes. All IsGood writes.items) }
     ensures ordered { IfOk result (λ _. ListsInOrder command.now change.now) }
     ensures fault { result ≢ Err Damaged }
@@ -65,7 +66,13 @@ fn entry_write(
     key: &Key,
     command: &Command,
 ) -> Result<Write, AllocError>
-    ensures { IfOk result (λ made. made ≡ write.Entry (record { number = number; source = key.now.source; name = key.now.name; body = canonical command.now })) }
+    ensures { IfOk result (λ made. made ≡ write.Entry
+        (record {
+          number = number;
+          source = key.now.source;
+          name = key.now.name;
+          body = canonical command.now;
+        })) }
 {
     Ok(Write::Entry(EntryRow {
         number,
@@ -96,7 +103,8 @@ fn push_allowed(
     currencies: &[Commodity],
 ) -> Result<(), AllocError>
     requires { length currencies.now ≤ most_currencies }
-    ensures { OnOk result (writes.new.items ≡ writes.old.items ++ map write.Allowed (allowed_rows account.now 0 currencies.now)) }
+    ensures { OnOk result (writes.new.items ≡ writes.old.items
+        ++ map write.Allowed (allowed_rows account.now 0 currencies.now)) }
 {
     let mut place = 0;
     for currency in currencies {
@@ -116,7 +124,8 @@ fn push_closing(
     closing: &Closing,
     standing: Option<&Standing>,
 ) -> Result<(), AllocError>
-    ensures { OnOk result (writes.new.items ≡ writes.old.items ++ closing_written closing.now (option_copied standing.entry)) }
+    ensures { OnOk result (writes.new.items ≡ writes.old.items
+        ++ closing_written closing.now (option_copied standing.entry)) }
 {
     if let Some(standing) = standing {
         writes.push(Write::Account(AccountRow {
@@ -130,7 +139,8 @@ fn push_closing(
 }
 
 fn push_declaring(writes: &mut Vec<Write>, declaring: &Declaring) -> Result<(), AllocError>
-    ensures { OnOk result (writes.new.items ≡ writes.old.items ++ write.Commodity (commodity_row declaring.now.commodity declaring.now.day) ∷ []) }
+    ensures { OnOk result (writes.new.items ≡ writes.old.items
+        ++ write.Commodity (commodity_row declaring.now.commodity declaring.now.day) ∷ []) }
 {
     writes.push(Write::Commodity(CommodityRow {
         name: declaring.commodity.copy()?,

@@ -85,7 +85,8 @@ fn push_sales(
     number: Ordinal,
     sales: &[(usize, Sale)],
 ) -> Result<(), Fault>
-    ensures writes { OnOk result (writes.new.items ≡ writes.old.items ++ sales_written number sales.now) }
+    ensures writes { OnOk result
+        (writes.new.items ≡ writes.old.items ++ sales_written number sales.now) }
     ensures fault { result ≢ Err Damaged }
     ensures device { result ≡ Err Device → ¬ All IsPlaced sales.now }
 {
@@ -177,7 +178,8 @@ fn push_opening_number(
     ensures writes { OnOk result (writes.new.items ≡ writes.old.items
         ++ opening_written position.now.account position.now.commodity position.now.lot units listed) }
     ensures fault { result ≢ Err Damaged }
-    ensures device { result ≡ Err Device → IsSome position.now.lot × ¬ IfSome listed IsOpeningNumber }
+    ensures device { result ≡ Err Device
+        → IsSome position.now.lot × ¬ IfSome listed IsOpeningNumber }
 {
     let Some(lot) = &position.lot else {
         return Ok(());

@@ -20,9 +20,11 @@ ghost use Rattle.lot_rows.specs.Tables.{Tables};
 ///
 /// The writes come from facts that agree with the book's on what the command looks at, under a key that is new.
 pub fn what_is_written_stands_for_the_book()
-    ensures { (tables : Tables) (entries : List Entry) (known : FactsWithOpenings) (key : Key) (command : Command)
+    ensures { (tables : Tables) (entries : List Entry) (known : FactsWithOpenings) (key : Key)
+        (command : Command)
         (change : Change) → IsBook entries → StandFor tables entries
-        → AgreesWithOpenings known (facts_with_openings entries key) command → known.facts.text ≡ None
+        → AgreesWithOpenings known (facts_with_openings entries key) command
+        → known.facts.text ≡ None
         → IsAcceptedWith known command change → ListsInOrder command change → IsSayable command
         → All IsGood (writes_of known.facts key command change)
         → AreFit (writes_of known.facts key command change) tables
@@ -37,7 +39,8 @@ pub fn what_is_written_stands_for_the_book()
 /// more. The writes leave the place. So the law speaks of the tables with the place that the book has, whichever place the
 /// tables have meanwhile. Edition 1 looks at no opening number, so the facts agree with the book's beside those.
 pub fn what_edition_1_accepts_stands_for_the_book()
-    ensures { (tables : Tables) (entries : List Entry) (known : Facts) (key : Key) (command : Command)
+    ensures { (tables : Tables) (entries : List Entry) (known : Facts) (key : Key)
+        (command : Command)
         (change : Change) → StandFor (placed_at (length entries) tables) entries
         → Agrees known (facts_of entries key) command
         → IsAcceptedUnder all_by_key known command change → ListsInOrder command change

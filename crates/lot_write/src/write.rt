@@ -53,9 +53,11 @@ pub enum Write {
 ///
 /// After an error the last commit stands, and the caller drops the transaction, which rolls back what was written.
 pub fn write_all<S: Alter>(tx: &mut Transaction<'_, S>, writes: &[Write]) -> Result<(), Fault>
-    requires { HasCleanDisk (state S.Store tx.old.conn.now) → IsTrue (state S.Store tx.old.conn.now).in_transaction }
+    requires { HasCleanDisk (state S.Store tx.old.conn.now)
+        → IsTrue (state S.Store tx.old.conn.now).in_transaction }
     ensures same_reference { tx.new.conn.ghost_name ≡ tx.old.conn.ghost_name }
-    ensures writes { WritesAll writes.now (state S.Store tx.old.conn.now) (state S.Store tx.new.conn.now) result }
+    ensures writes { WritesAll writes.now (state S.Store tx.old.conn.now)
+        (state S.Store tx.new.conn.now) result }
 {
     'each: for write in writes {
         write_one(tx, write)?;
@@ -65,9 +67,11 @@ pub fn write_all<S: Alter>(tx: &mut Transaction<'_, S>, writes: &[Write]) -> Res
 
 /// Puts the row, changes the one of its key, or deletes it.
 fn write_one<S: Alter>(tx: &mut Transaction<'_, S>, write: &Write) -> Result<(), Fault>
-    requires { HasCleanDisk (state S.Store tx.old.conn.now) → IsTrue (state S.Store tx.old.conn.now).in_transaction }
+    requires { HasCleanDisk (state S.Store tx.old.conn.now)
+        → IsTrue (state S.Store tx.old.conn.now).in_transaction }
     ensures same_reference { tx.new.conn.ghost_name ≡ tx.old.conn.ghost_name }
-    ensures writes { WritesOne write.now (state S.Store tx.old.conn.now) (state S.Store tx.new.conn.now) result }
+    ensures writes { WritesOne write.now (state S.Store tx.old.conn.now)
+        (state S.Store tx.new.conn.now) result }
 {
     match write {
         Write::Account(row) => account::put(tx, row),

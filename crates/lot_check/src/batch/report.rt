@@ -20,7 +20,8 @@ pub(super) fn print_holdings<W: CountedWrite>(
     rows: Vec<Holding>,
     writer: &mut W,
 ) -> Result<(), ReportFault>
-    ensures report { WritesReport (unvalued rows.items) (W.contents writer.old) (W.contents writer.new) result }
+    ensures report { WritesReport (unvalued rows.items) (W.contents writer.old)
+        (W.contents writer.new) result }
     ensures cause { IsErrOf result ReportFault.Write → HasFailed (W.calls writer.new) }
     ensures none_failed { OnOk result (NoneFailed (W.calls writer.old) (W.calls writer.new)) }
 {
@@ -40,7 +41,8 @@ fn print_row<W: CountedWrite>(
     requires { IsFalse (is_spent report.old) }
     ensures text { (rows : List Row) (start : Option (List ℕ)) → IsFed rows report.old
         → Appends start (W.contents writer.old) (rows_text rows)
-        → GrowsByHolding rows (unvalued_row holding) report.new start (W.contents writer.new) (in_row result) }
+        → GrowsByHolding rows (unvalued_row holding) report.new start (W.contents writer.new)
+        (in_row result) }
     ensures after { IfOk result (λ _. IsFalse (is_spent report.new)) }
     ensures cause { IsErrOf result ReportFault.Write → HasFailed (W.calls writer.new) }
     ensures none_failed { OnOk result (NoneFailed (W.calls writer.old) (W.calls writer.new)) }

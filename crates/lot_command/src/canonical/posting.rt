@@ -17,7 +17,8 @@ pub(super) fn push_postings(
     text: &mut String,
     postings: &[Posting],
 ) -> Result<(), AllocError>
-    ensures { OnOk result (string_bytes text.new ≡ string_bytes text.old ++ flat_map posting_text postings.now) }
+    ensures { OnOk result
+        (string_bytes text.new ≡ string_bytes text.old ++ flat_map posting_text postings.now) }
 {
     for posting in postings {
         let account = &posting.account;
@@ -67,7 +68,8 @@ fn cost_part(alloc: Global, cost: &Option<Cost>) -> Result<String, AllocError>
 
 /// Returns the parts of a cost, its number as a text.
 fn parts_text(alloc: Global, number: Option<String>, spec: &CostSpec) -> Result<String, AllocError>
-    ensures { IfOk result (λ text. string_bytes text ≡ parts_text (option_map string_bytes number) spec.now) }
+    ensures { IfOk result
+        (λ text. string_bytes text ≡ parts_text (option_map string_bytes number) spec.now) }
 {
     let mut parts = Vec::new(alloc);
     push_given(&mut parts, money(alloc, number, &spec.currency)?)?;
@@ -93,7 +95,8 @@ fn money(
     number: Option<String>,
     currency: &Option<Commodity>,
 ) -> Result<Option<String>, AllocError>
-    ensures { IfOk result (λ text. option_map string_bytes text ≡ money (option_map string_bytes number) currency.now) }
+    ensures { IfOk result (λ text.
+        option_map string_bytes text ≡ money (option_map string_bytes number) currency.now) }
 {
     match (number, currency) {
         (Some(number), Some(currency)) => Ok(Some(format!(in alloc; "{number} {currency}")?)),

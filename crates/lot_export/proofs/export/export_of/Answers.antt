@@ -34,4 +34,5 @@ returns-clause-ok c =
       given = c.in_ok-handed_in.ensures.ok;
       by_hand = c.in_ok-by_hand.ensures ∙ ap (by_hand_of entries c.args.except.now) (c.as_slice-4.ensures ∙ sym c.as_slice-3.ensures);
       skipped = c.skipped.ensures;
+      rounded = c.rounded.ensures;
     }
