@@ -1,5 +1,5 @@
 -- The statements that answer some rows of a table, and the one of the table `migration`.
-use Rattle.std.proofs.Common.{Result, Vec, IfSome, slice_get, true, ◌≡◌, ℕ, ℤ, pos, None, All, List, [], ◌∷◌, codes, refl, ap, arith, Option, Some}
+use Rattle.std.proofs.Common.{Result, Vec, IfSome, slice_get, true, ◌≡◌, ℕ, ℤ, pos, None, All, List, [], ◌∷◌, codes, refl, arith, Option, Some}
 use Rattle.std.specs.declared.alloc.Global.{Global}
 use Rattle.sqlite.specs.Collation.TheVariants.{Binary}
 use Rattle.sqlite.specs.Listing.{understood}
@@ -13,16 +13,16 @@ use Rattle.sqlite_value.specs.Keys.{ascending}
 use Rattle.sqlite_value.specs.declared.keys.Key.{Key}
 use Rattle.lot_cost.specs.declared.lot_key.LotKey.{LotKey}
 use Rattle.lot_table.proofs.CastLemmas.{cast_maybe_int, cast_maybe_text}
-use Rattle.lot_table.proofs.QueryLemmas.{Asks, IsQuery, every_one, finds, keyed, lists, lists_columns}
+use Rattle.lot_table.proofs.QueryLemmas.{Asks, IsQuery, finds, keyed, lists_columns}
 use Rattle.lot_table.proofs.ReadLemmas.{key_terms}
 use Rattle.lot_table.proofs.ShapeLemmas.{free}
 use Rattle.lot_table.proofs.StatementLemmas.{IsTable}
 use Rattle.lot_table.proofs.WriteLemmas.{cast_int}
-use Rattle.lot_table.specs.Call.{Finds, Lists, ListsColumns, Selects}
+use Rattle.lot_table.specs.Call.{Finds, ListsColumns, Selects}
 use Rattle.lot_table.specs.Cell.{label_text}
 use Rattle.lot_table.specs.Rows.{has_key, with_key}
 use Rattle.lot_table.specs.declared.fault.Fault.{Fault}
-use Rattle.lot_rows.specs.Tables.{layout, leg_table, lot_table, migration_table, opening_table, price_table, shapes}
+use Rattle.lot_rows.specs.Tables.{layout, leg_table, lot_table, opening_table, price_table, shapes}
 use Rattle.lot_rows.proofs.PriceLemmas.{same_row as same_price}
 use Rattle.lot_rows.specs.Leg.{IsLegRow, leg_cells}
 use Rattle.lot_rows.specs.Lot.{IsLotRow, lot_cells}
@@ -34,65 +34,7 @@ use Rattle.lot_rows.specs.declared.price.PriceRow.{PriceRow}
 use Rattle.sqlite.specs.Order.{Row}
 use Rattle.lot_rows.specs.Opening.{IsOpeningRow, opening_cells}
 use Rattle.lot_rows.specs.declared.opening.OpeningRow.{OpeningRow}
-use Rattle.lot_rows.specs.Migration.{IsMigrationRow, migration_cells}
-use Rattle.lot_rows.specs.declared.migration.MigrationRow.{MigrationRow}
 use Rattle.lot_audit.proofs.WholeLemmas.{lot_is, lot_names, lot_order, lot_shows, opening_is, opening_names, opening_order, opening_shows, price_is, price_names, price_order, price_shows}
-
--- ---- migration
-
-same_migration : (x y : MigrationRow) → migration_cells x ≡ migration_cells y → x ≡ y
-same_migration x y same =
-    let number : ◌≡◌ {A = ℤ} (pos x.entries) (pos y.entries) = cc in
-    let entries : x.entries ≡ y.entries = cc in
-    ap (λ (n : ℕ). record { entries = n }) entries
-
-abbrev migration_is : IsTable layout migration_table
-migration_is = record {
-  aligned = λ _. refl;
-  held = λ _ _ h. h.1.1.1.1.1.1.1.1.1.1.1.1.0;
-  is_set = λ _ _. refl;
-  present = λ _. (refl, tt);
-  place = 12;
-  placed = refl;
-  free = free shapes migration_table.table (has_got layout.schema.tables 12 migration_table.table refl) refl;
-  uncounted = refl;
-  mends = λ _. refl;
-  stored = λ x. (cast_int (pos x.entries), tt);
-  judged = λ _ _. (refl, refl, refl, refl);
-}
-
-abbrev migration_shows : List Term
-migration_shows = col 1 1 ∷ []
-
-abbrev migration_order : List (Term × Key)
-migration_order = (col 1 1, ascending Binary) ∷ []
-
-abbrev migration_names : List (List ℕ)
-migration_names = codes "entries" ∷ []
-
-abbrev migration_text : List ℕ
-migration_text = codes "SELECT entries FROM migration ORDER BY entries"
-
-pub migration_query : IsQuery layout.schema migration_table.table.tree (key_terms 0 0) migration_shows migration_order migration_names 0 migration_text
-unfolding understood everything
-migration_query = record { means = refl; unlisted = refl; bare = (refl, refl); whole = (omega arith, refl); selects = (_, refl, refl) }
-
-migration_asks : Asks layout migration_table [] (has_key 0 []) migration_text
-migration_asks = record {
-  tests = key_terms 0 0;
-  shows = migration_shows;
-  order = migration_order;
-  names = migration_names;
-  is = migration_query;
-  picks = record { alike = λ _ _. refl; blind = λ _ _ _. refl; shown = λ _. refl; sorts = λ _ _ _. refl; typed = refl };
-}
-
-pub migration_rows : (old new : State) (result : Result (Vec MigrationRow Global) Fault)
-    → Selects migration_cells IsMigrationRow (λ rows found. found.items ≡ rows) (λ found. All IsMigrationRow found.items) migration_text [] old new result
-    → Lists layout IsMigrationRow (λ b. b.migration) old new result
-migration_rows old new =
-    lists layout migration_table migration_is [] (has_key 0 []) migration_text migration_asks old new IsMigrationRow (λ b. b.migration)
-    (λ b. every_one migration_cells [] b.migration) same_migration
 
 -- ---- price: one pair on one day
 

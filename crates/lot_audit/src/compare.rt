@@ -10,38 +10,18 @@ use crate::has::have_rows;
 use crate::pass::Known;
 use crate::watch::{Spot, Table, Watch};
 use lot_page::LegCursor;
-use lot_rows::account::AccountRow;
-use lot_rows::allowed::AllowedRow;
-use lot_rows::commodity::CommodityRow;
-use lot_rows::head::HeadRow;
-use lot_rows::lot::LotRow;
-use lot_rows::opening::OpeningRow;
-use lot_rows::plain::PlainRow;
-use lot_rows::price::PriceRow;
+use lot_rows::account::{self, AccountRow};
+use lot_rows::allowed::{self, AllowedRow};
+use lot_rows::commodity::{self, CommodityRow};
+use lot_rows::head::{self, HeadRow};
+use lot_rows::lot::{self, LotRow};
+use lot_rows::opening::{self, OpeningRow};
+use lot_rows::plain::{self, PlainRow};
+use lot_rows::price::{self, PriceRow};
 use lot_table::{Fault, select};
 use lot_view::View;
 use sqlite::{Alter, Connection};
 use std::alloc::Global;
-
-// The statements that answer all rows of a table.
-
-const ACCOUNTS: &str = "SELECT name, opened, closed, method FROM account ORDER BY name";
-
-const ALLOWED: &str = "SELECT account, place, commodity FROM allowed ORDER BY account, place";
-
-const COMMODITIES: &str = "SELECT name, day FROM commodity ORDER BY name";
-
-const HEADS: &str = "SELECT account, commodity, day FROM head ORDER BY account, commodity";
-
-const PRICES: &str = "SELECT base, quote, day, rate FROM price ORDER BY base, quote, day";
-
-const LOTS: &str =
-    "SELECT account, commodity, cost_day, cost_currency, cost_number, cost_label, units FROM lot ORDER BY account, commodity, cost_day, cost_currency, cost_number, cost_label";
-
-const PLAIN: &str = "SELECT account, commodity, units FROM plain ORDER BY account, commodity";
-
-const OPENINGS: &str =
-    "SELECT account, commodity, cost_day, cost_currency, cost_number, cost_label, opening FROM opening ORDER BY account, commodity, cost_day, cost_currency, cost_number, cost_label";
 
 /// Returns whether the tables agree with what is known of their entries.
 pub(crate) fn agree<S: Alter, W: Watch>(
@@ -76,19 +56,19 @@ fn names_agree<S: Alter, W: Watch>(
         (state S.Store conn.old) (state S.Store conn.new) result }
 {
     watch.look(Spot::Table(Table::Account));
-    if !are_told::<S, W, AccountRow>(alloc, conn, watch, known, ACCOUNTS)? {
+    if !are_told::<S, W, AccountRow>(alloc, conn, watch, known, account::LIST)? {
         return Ok(false);
     }
     watch.look(Spot::Table(Table::Allowed));
-    if !are_told::<S, W, AllowedRow>(alloc, conn, watch, known, ALLOWED)? {
+    if !are_told::<S, W, AllowedRow>(alloc, conn, watch, known, allowed::LIST)? {
         return Ok(false);
     }
     watch.look(Spot::Table(Table::Commodity));
-    if !are_told::<S, W, CommodityRow>(alloc, conn, watch, known, COMMODITIES)? {
+    if !are_told::<S, W, CommodityRow>(alloc, conn, watch, known, commodity::LIST)? {
         return Ok(false);
     }
     watch.look(Spot::Table(Table::Head));
-    are_told::<S, W, HeadRow>(alloc, conn, watch, known, HEADS)
+    are_told::<S, W, HeadRow>(alloc, conn, watch, known, head::LIST)
 }
 
 fn amounts_agree<S: Alter, W: Watch>(
@@ -102,19 +82,19 @@ fn amounts_agree<S: Alter, W: Watch>(
         (state S.Store conn.old) (state S.Store conn.new) result }
 {
     watch.look(Spot::Table(Table::Price));
-    if !are_told::<S, W, PriceRow>(alloc, conn, watch, known, PRICES)? {
+    if !are_told::<S, W, PriceRow>(alloc, conn, watch, known, price::LIST)? {
         return Ok(false);
     }
     watch.look(Spot::Table(Table::Lot));
-    if !are_told::<S, W, LotRow>(alloc, conn, watch, known, LOTS)? {
+    if !are_told::<S, W, LotRow>(alloc, conn, watch, known, lot::LIST)? {
         return Ok(false);
     }
     watch.look(Spot::Table(Table::Plain));
-    if !are_told::<S, W, PlainRow>(alloc, conn, watch, known, PLAIN)? {
+    if !are_told::<S, W, PlainRow>(alloc, conn, watch, known, plain::LIST)? {
         return Ok(false);
     }
     watch.look(Spot::Table(Table::Opening));
-    are_told::<S, W, OpeningRow>(alloc, conn, watch, known, OPENINGS)
+    are_told::<S, W, OpeningRow>(alloc, conn, watch, known, opening::LIST)
 }
 
 /// Returns whether each row of a table says what is known. The statement answers all rows of it.

@@ -5,8 +5,8 @@ ghost use Rattle.sqlite.specs.Held.{state};
 
 use crate::compare::agree;
 use crate::pass::judge_all;
-use crate::rows::migrations;
 use crate::watch::{Spot, Table, Watch};
+use lot_rows::migration;
 use lot_table::Fault;
 use sqlite::{Alter, Connection};
 use std::alloc::Global;
@@ -38,7 +38,7 @@ pub fn judge_book<S: Alter, W: Watch>(
 fn place_of<S: Alter>(alloc: Global, conn: &mut Connection<S>) -> Result<u32, Fault>
     ensures says { Checks SaysPlace (state S.Store conn.old) (state S.Store conn.new) result }
 {
-    let rows = migrations(alloc, conn)?;
+    let rows = migration::list(alloc, conn)?;
     let [row] = rows.as_slice() else {
         return Err(Fault::Damaged);
     };

@@ -8,7 +8,7 @@ use lot_explain::{Entry, Known, Latest, Lot};
 use lot_rows::account::{self, AccountRow};
 use lot_rows::entry::{self, EntryRow};
 use lot_rows::head::{self, HeadRow};
-use lot_rows::leg::LegRow;
+use lot_rows::leg::{self, LegRow};
 use lot_rows::lot::{self, LotRow};
 use lot_rows::plain::{self, PlainRow};
 use lot_table::{Cell, Fault, Queryable, find, select};
@@ -101,12 +101,7 @@ pub(crate) fn list_accounts<D: Queryable>(alloc: Global, db: &mut D) -> Result<V
     ensures same_reference { D.reference db.new ≡ D.reference db.old }
     ensures looks { Looks (D.shown db.old) (D.shown db.new) result }
 {
-    let rows: Vec<AccountRow> = select(
-        alloc,
-        db,
-        "SELECT name, opened, closed, method FROM account ORDER BY name",
-        &[],
-    )?;
+    let rows: Vec<AccountRow> = select(alloc, db, account::LIST, &[])?;
     names_of(alloc, rows)
 }
 
@@ -158,7 +153,7 @@ fn last_leg<D: Queryable>(
     find(
         alloc,
         db,
-        "SELECT entry, posting, place, account, commodity, units, cost_number, cost_currency, cost_day, cost_label FROM leg WHERE account = ?1 AND commodity = ?2 AND cost_day IS NOT NULL ORDER BY entry DESC, posting DESC, place DESC LIMIT 1",
+        leg::LAST_AT_COST,
         &[account.to_cell(), commodity.to_cell()],
     )
 }
@@ -237,10 +232,5 @@ fn first_lot<D: Queryable>(
     ensures same_reference { D.reference db.new ≡ D.reference db.old }
     ensures looks { Looks (D.shown db.old) (D.shown db.new) result }
 {
-    find(
-        alloc,
-        db,
-        "SELECT account, commodity, cost_day, cost_currency, cost_number, cost_label, units FROM lot WHERE account = ?1 ORDER BY account, commodity, cost_day, cost_currency, cost_number, cost_label LIMIT 1",
-        &[account.to_cell()],
-    )
+    find(alloc, db, lot::FIRST_OF_ACCOUNT, &[account.to_cell()])
 }

@@ -2,6 +2,7 @@
 
 use lot_explain::{LongOption, is_shown};
 use lot_files::is_missing;
+use lot_rows::book;
 use sqlite::{Alter, Connection, Error};
 
 /// What stands in the place of the book that a call is on, where its action can't begin with it.
@@ -34,8 +35,7 @@ impl Standing {
 
     /// Returns what a database is that isn't empty. It is `None` where it can't be read.
     pub fn of_database<S: Alter>(conn: &mut Connection<S>) -> Option<Standing> {
-        let query = "SELECT edition FROM book WHERE mark = 'lot-book'";
-        Some(if finds(conn, query)? {
+        Some(if finds(conn, book::MARKED)? {
             Standing::Book
         } else {
             Standing::OtherDatabase

@@ -44,7 +44,7 @@ use lot_ledger::LotOpening;
 use lot_rows::book::{self, BookRow};
 use lot_rows::migration::{self, MigrationRow};
 use lot_rows::opening::OpeningRow;
-use lot_rows::tables;
+use lot_rows::{entry, tables};
 use lot_table::{Fault, OpeningNumber, Ordinal, ask, column};
 use lot_write::{Write, write_all};
 use sqlite::{Alter, Row, Transaction};
@@ -120,11 +120,7 @@ fn count_entries<S: Alter>(alloc: Global, tx: &mut Transaction<'_, S>) -> Result
         (λ tables. All IsEntryRow tables.entry)
         (state S.Store tx.old.conn.now) (state S.Store tx.new.conn.now) result }
 {
-    let rows = ask(
-        tx,
-        "SELECT number FROM entry ORDER BY number DESC LIMIT 1",
-        &[],
-    )?;
+    let rows = ask(tx, entry::GREATEST, &[])?;
     first_number(alloc, &rows)
 }
 

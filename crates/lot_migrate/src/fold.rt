@@ -15,10 +15,10 @@ ghost use Rattle.lot_rows.specs.Leg.{IsLegRow, leg_cells};
 ghost use Rattle.lot_rows.specs.declared.leg.LegRow.{LegRow};
 ghost use Rattle.sqlite.specs.Held.{state};
 
-use crate::pages::legs_behind;
 use crate::progress::Progress;
 use lot_book::{Leg, MOST_POSTINGS, Position};
 use lot_ledger::{LegFault, OpenLots};
+use lot_page::legs_behind;
 use lot_rows::leg::LegRow;
 use lot_table::{Fault, TableRow};
 use sqlite::{Alter, Row, Transaction};

@@ -3,7 +3,6 @@
 //! - `migration`: `migrate`, which takes a connection and gives it back.
 //! - `fill`: what is read and put in its transaction; `fold`: the legs of the table, folded to
 //!   opening numbers.
-//! - `pages`: rows that are read in a transaction, a page at a time.
 //! - `progress`: the receiver of how far it is.
 //! - `fault`: `MigrateFault`, why a book isn't migrated.
 //! - `laws`: that the sales stay those of edition 1.
@@ -14,7 +13,6 @@ mod fill;
 mod fold;
 pub mod laws;
 mod migration;
-mod pages;
 mod progress;
 
 pub use fault::MigrateFault;

@@ -8,7 +8,7 @@ ghost use Rattle.sqlite_value.specs.Value.{owned};
 
 use crate::cursor::Cursor;
 use crate::paged::{ENTRY_PAGE_ROWS, PagedRow, number_behind};
-use lot_rows::entry::EntryRow;
+use lot_rows::entry::{self, EntryRow};
 use lot_table::{Cell, Fault, ask};
 use sqlite::types::ValueRef;
 use sqlite::{Alter, Connection, Row};
@@ -47,7 +47,7 @@ fn entries_from<S: Alter>(conn: &mut Connection<S>, first: ValueRef<'_>) -> Resu
 {
     ask(
         conn,
-        "SELECT number, source, name, body FROM entry WHERE number >= ?2 ORDER BY number LIMIT ?1",
+        entry::PAGE_FROM_NUMBER,
         &[ENTRY_PAGE_ROWS.to_cell(), first],
     )
 }

@@ -1,15 +1,14 @@
-ghost use Rattle.std.specs.Prelude.{◌≡◌, ℤ, filter};
-ghost use Rattle.lot_page.specs.Page.{PagesOf, is_from, is_past, page_rows};
+ghost use Rattle.std.specs.Prelude.{◌≡◌, ℤ, filter, option_map};
+ghost use Rattle.lot_page.specs.Page.{Pages, PagesOf, is_from, is_past, page_rows};
 ghost use Rattle.lot_page.specs.Rise.{legs_rise};
 ghost use Rattle.lot_rows.specs.Leg.{leg_cells};
-ghost use Rattle.sqlite.specs.Held.{state};
 ghost use Rattle.sqlite.specs.declared.types.Value.TheVariants.{Int};
 ghost use Rattle.sqlite_value.specs.Value.{owned};
 
 use crate::cursor::Cursor;
 use crate::paged::{PAGE_ROWS, PagedRow, number_behind};
-use lot_rows::leg::LegRow;
-use lot_table::{Cell, Fault, ask};
+use lot_rows::leg::{self, LegRow};
+use lot_table::{Cell, Fault, Queryable, ask};
 use sqlite::types::ValueRef;
 use sqlite::{Alter, Connection, Row};
 use std::alloc::Global;
@@ -29,38 +28,51 @@ impl PagedRow for LegRow {
         conn: &mut Connection<S>,
         last: &Option<LegRow>,
     ) -> Result<Vec<Row>, Fault> {
-        let Some(row) = last else {
-            // a number that no entry has is met, too
-            return legs_from(conn, ValueRef::Int(i64::MIN));
-        };
-        let rest = ask(
-            conn,
-            "SELECT entry, posting, place, account, commodity, units, cost_number, cost_currency, cost_day, cost_label FROM leg WHERE entry = ?2 AND posting = ?3 AND place > ?4 ORDER BY entry, posting, place LIMIT ?1",
-            &[
-                PAGE_ROWS.to_cell(),
-                row.entry.to_cell(),
-                row.posting.to_cell(),
-                row.place.to_cell(),
-            ],
-        )?;
-        if !rest.is_empty() {
-            return Ok(rest);
-        }
-        behind_posting(conn, row)
+        legs_behind(conn, last)
     }
 
     ghost rises = { legs_rise };
 }
 
+/// Returns the next legs behind the last one given, by entry, posting and place. Before the first leg it is the first ones. There is
+/// none only where all legs are given.
+///
+/// The queries change nothing. After an error nothing changed, or a transaction that was open is rolled back.
+pub fn legs_behind<D: Queryable>(conn: &mut D, last: &Option<LegRow>) -> Result<Vec<Row>, Fault>
+    ensures same_reference { D.reference conn.new ≡ D.reference conn.old }
+    ensures pages { Pages leg_cells (λ b. b.leg) 3 page_rows (option_map leg_cells last.now)
+        (D.shown conn.old) (D.shown conn.new) result }
+{
+    let Some(row) = last else {
+        // a number that no entry has is met, too
+        return legs_from(conn, ValueRef::Int(i64::MIN));
+    };
+    let rest = ask(
+        conn,
+        leg::PAGE_BEHIND_PLACE,
+        &[
+            PAGE_ROWS.to_cell(),
+            row.entry.to_cell(),
+            row.posting.to_cell(),
+            row.place.to_cell(),
+        ],
+    )?;
+    if !rest.is_empty() {
+        return Ok(rest);
+    }
+    behind_posting(conn, row)
+}
+
 /// Returns the next legs behind those of the posting of this one.
-fn behind_posting<S: Alter>(conn: &mut Connection<S>, row: &LegRow) -> Result<Vec<Row>, Fault>
+fn behind_posting<D: Queryable>(conn: &mut D, row: &LegRow) -> Result<Vec<Row>, Fault>
+    ensures same_reference { D.reference conn.new ≡ D.reference conn.old }
     ensures pages { PagesOf leg_cells
         (λ b. b.leg) page_rows (filter (is_past 2 (leg_cells row.now)))
-        (state S.Store conn.old) (state S.Store conn.new) result }
+        (D.shown conn.old) (D.shown conn.new) result }
 {
     let rest = ask(
         conn,
-        "SELECT entry, posting, place, account, commodity, units, cost_number, cost_currency, cost_day, cost_label FROM leg WHERE entry = ?2 AND posting > ?3 ORDER BY entry, posting, place LIMIT ?1",
+        leg::PAGE_BEHIND_POSTING,
         &[
             PAGE_ROWS.to_cell(),
             row.entry.to_cell(),
@@ -74,14 +86,11 @@ fn behind_posting<S: Alter>(conn: &mut Connection<S>, row: &LegRow) -> Result<Ve
 }
 
 /// Returns the next legs of the entries from a number on.
-fn legs_from<S: Alter>(conn: &mut Connection<S>, first: ValueRef<'_>) -> Result<Vec<Row>, Fault>
+fn legs_from<D: Queryable>(conn: &mut D, first: ValueRef<'_>) -> Result<Vec<Row>, Fault>
+    ensures same_reference { D.reference conn.new ≡ D.reference conn.old }
     ensures pages { (n : ℤ) → owned first.entry ≡ Int n
         → PagesOf leg_cells (λ b. b.leg) page_rows (filter (is_from (Int n)))
-        (state S.Store conn.old) (state S.Store conn.new) result }
+        (D.shown conn.old) (D.shown conn.new) result }
 {
-    ask(
-        conn,
-        "SELECT entry, posting, place, account, commodity, units, cost_number, cost_currency, cost_day, cost_label FROM leg WHERE entry >= ?2 ORDER BY entry, posting, place LIMIT ?1",
-        &[PAGE_ROWS.to_cell(), first],
-    )
+    ask(conn, leg::PAGE_FROM_ENTRY, &[PAGE_ROWS.to_cell(), first])
 }

@@ -11,20 +11,11 @@ use crate::cursor::Cursor;
 use crate::paged::{PAGE_ROWS, PagedRow, text_behind};
 use lot_base::Day;
 use lot_num::Rate;
-use lot_rows::lot::LotRow;
+use lot_rows::lot::{self, LotRow};
 use lot_table::{Cell, Fault, ask};
 use sqlite::types::ValueRef;
 use sqlite::{Alter, Connection, Row};
 use std::alloc::{AllocError, Global};
-
-/// The queries for lots from a value of one column of the key on, by how many columns before it are the same.
-const FROM: [&str; 5] = [
-    "SELECT account, commodity, cost_day, cost_currency, cost_number, cost_label, units FROM lot WHERE account >= ?2 ORDER BY account, commodity, cost_day, cost_currency, cost_number, cost_label LIMIT ?1",
-    "SELECT account, commodity, cost_day, cost_currency, cost_number, cost_label, units FROM lot WHERE account = ?2 AND commodity >= ?3 ORDER BY account, commodity, cost_day, cost_currency, cost_number, cost_label LIMIT ?1",
-    "SELECT account, commodity, cost_day, cost_currency, cost_number, cost_label, units FROM lot WHERE account = ?2 AND commodity = ?3 AND cost_day >= ?4 ORDER BY account, commodity, cost_day, cost_currency, cost_number, cost_label LIMIT ?1",
-    "SELECT account, commodity, cost_day, cost_currency, cost_number, cost_label, units FROM lot WHERE account = ?2 AND commodity = ?3 AND cost_day = ?4 AND cost_currency >= ?5 ORDER BY account, commodity, cost_day, cost_currency, cost_number, cost_label LIMIT ?1",
-    "SELECT account, commodity, cost_day, cost_currency, cost_number, cost_label, units FROM lot WHERE account = ?2 AND commodity = ?3 AND cost_day = ?4 AND cost_currency = ?5 AND cost_number >= ?6 ORDER BY account, commodity, cost_day, cost_currency, cost_number, cost_label LIMIT ?1",
-];
 
 /// A cursor over all lots, by account, commodity and lot.
 pub type LotCursor = Cursor<LotRow>;
@@ -46,7 +37,7 @@ impl PagedRow for LotRow {
         };
         let rest = ask(
             conn,
-            "SELECT account, commodity, cost_day, cost_currency, cost_number, cost_label, units FROM lot WHERE account = ?2 AND commodity = ?3 AND cost_day = ?4 AND cost_currency = ?5 AND cost_number = ?6 AND cost_label > ?7 ORDER BY account, commodity, cost_day, cost_currency, cost_number, cost_label LIMIT ?1",
+            lot::PAGE_BEHIND_LABEL,
             &[
                 PAGE_ROWS.to_cell(),
                 row.account.to_cell(),
@@ -136,7 +127,7 @@ fn level<'a, S: Alter>(
         row.lot.number.to_cell(),
     ];
     key[same + 1] = next[same];
-    ask(conn, FROM[same], &key[..same + 2])
+    ask(conn, lot::PAGES_FROM[same], &key[..same + 2])
 }
 
 /// Returns the next lots of the accounts from a text on.
@@ -144,7 +135,11 @@ fn lots_from<S: Alter>(conn: &mut Connection<S>, text: &[u8]) -> Result<Vec<Row>
     ensures pages { PagesOf lot_cells (λ b. b.lot) page_rows (filter (is_from (Text text.now)))
         (state S.Store conn.old) (state S.Store conn.new) result }
 {
-    ask(conn, FROM[0], &[PAGE_ROWS.to_cell(), ValueRef::Text(text)])
+    ask(
+        conn,
+        lot::PAGES_FROM[0],
+        &[PAGE_ROWS.to_cell(), ValueRef::Text(text)],
+    )
 }
 
 /// Returns what a column holds for the next day.

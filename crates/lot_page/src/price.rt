@@ -7,7 +7,7 @@ ghost use Rattle.sqlite.specs.declared.types.Value.TheVariants.{Text};
 
 use crate::cursor::Cursor;
 use crate::paged::{PAGE_ROWS, PagedRow, text_behind};
-use lot_rows::price::PriceRow;
+use lot_rows::price::{self, PriceRow};
 use lot_table::{Cell, Fault, ask};
 use sqlite::types::ValueRef;
 use sqlite::{Alter, Connection, Row};
@@ -33,7 +33,7 @@ impl PagedRow for PriceRow {
         };
         let rest = ask(
             conn,
-            "SELECT base, quote, day, rate FROM price WHERE base = ?2 AND quote = ?3 AND day > ?4 ORDER BY base, quote, day LIMIT ?1",
+            price::PAGE_BEHIND_DAY,
             &[
                 PAGE_ROWS.to_cell(),
                 row.base.to_cell(),
@@ -67,7 +67,7 @@ fn behind_quote<S: Alter>(
 {
     let rest = ask(
         conn,
-        "SELECT base, quote, day, rate FROM price WHERE base = ?2 AND quote >= ?3 ORDER BY base, quote, day LIMIT ?1",
+        price::PAGE_FROM_QUOTE,
         &[
             PAGE_ROWS.to_cell(),
             row.base.to_cell(),
@@ -87,7 +87,7 @@ fn prices_from<S: Alter>(conn: &mut Connection<S>, text: &[u8]) -> Result<Vec<Ro
 {
     ask(
         conn,
-        "SELECT base, quote, day, rate FROM price WHERE base >= ?2 ORDER BY base, quote, day LIMIT ?1",
+        price::PAGE_FROM_BASE,
         &[PAGE_ROWS.to_cell(), ValueRef::Text(text)],
     )
 }

@@ -8,7 +8,7 @@ ghost use Rattle.sqlite_value.specs.Value.{owned};
 
 use crate::cursor::Cursor;
 use crate::paged::{PAGE_ROWS, PagedRow, number_behind};
-use lot_rows::sale::SaleRow;
+use lot_rows::sale::{self, SaleRow};
 use lot_table::{Cell, Fault, ask};
 use sqlite::types::ValueRef;
 use sqlite::{Alter, Connection, Row};
@@ -34,7 +34,7 @@ impl PagedRow for SaleRow {
         };
         let rest = ask(
             conn,
-            "SELECT entry, posting, day, account, commodity, units, kind, amount, currency FROM sale WHERE entry = ?2 AND posting > ?3 ORDER BY entry, posting LIMIT ?1",
+            sale::PAGE_BEHIND_POSTING,
             &[
                 PAGE_ROWS.to_cell(),
                 row.entry.to_cell(),
@@ -56,9 +56,5 @@ fn sales_from<S: Alter>(conn: &mut Connection<S>, first: ValueRef<'_>) -> Result
         → PagesOf sale_cells (λ b. b.sale) page_rows (filter (is_from (Int n)))
         (state S.Store conn.old) (state S.Store conn.new) result }
 {
-    ask(
-        conn,
-        "SELECT entry, posting, day, account, commodity, units, kind, amount, currency FROM sale WHERE entry >= ?2 ORDER BY entry, posting LIMIT ?1",
-        &[PAGE_ROWS.to_cell(), first],
-    )
+    ask(conn, sale::PAGE_FROM_ENTRY, &[PAGE_ROWS.to_cell(), first])
 }

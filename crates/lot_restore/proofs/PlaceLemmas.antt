@@ -1,76 +1,45 @@
 -- The place of migration is put that is one behind another: the row of that one is deleted, and then its table has room.
-use Rattle.std.proofs.Common.{◌≡◌, ◌∙◌, ◌⊎◌, inl, inr, ℕ, suc, Bool, true, false, cond, eqb, not, OnErr, OnOk, List, [], ◌∷◌, Ok, Err, Result, codes, drop, length, map, pos, refl, sym, ap, subst, take, arith}
+use Rattle.std.proofs.Common.{◌≡◌, ◌∙◌, ◌⊎◌, inl, inr, ℕ, suc, Bool, true, false, cond, eqb, not, OnErr, OnOk, List, [], ◌∷◌, Ok, Err, Result, drop, length, map, pos, refl, sym, ap, subst, take, arith}
 use Rattle.std.proofs.lemmas.Bool.{eqb-false, true≢false}
 use Rattle.std.proofs.lemmas.List.Elements.{All-from_recursion}
 use Rattle.std.proofs.lemmas.List.Sorted.{length_permutation}
 use Rattle.std.proofs.lemmas.Nat.Bits.{bit_at-zero}
 use Rattle.std.specs.Float.{NotNan}
 use Rattle.std.specs.List.{AllByRecursion}
-use Rattle.sqlite.specs.Listing.{understood}
 use Rattle.sqlite.specs.Order.{Row}
 use Rattle.sqlite.specs.State.{HasCleanDisk, KeepsCommit, State, Survives}
 use Rattle.sqlite.specs.Tree.{Trees}
 use Rattle.sqlite.specs.declared.types.Value.TheVariants.{Int}
 use Rattle.sqlite_keyed.proofs.ListLemmas.{all-append}
-use Rattle.sqlite_rules.proofs.ListLemmas.{all_has, has_got}
+use Rattle.sqlite_rules.proofs.ListLemmas.{all_has}
 use Rattle.sqlite_rules.specs.Edit.{IsOversized, next_rowid}
 use Rattle.sqlite_rules.specs.Lists.{Has as HasItem}
 use Rattle.sqlite_schema.specs.Rules.{index_reals}
 use Rattle.sqlite_schema.specs.declared.schema.Index.{Index}
 use Rattle.sqlite_sql.specs.Catalog.{entry_of}
 use Rattle.sqlite_sql.specs.Ops.{fits_i64}
-use Rattle.sqlite_tied.specs.Compute.{everything}
 use Rattle.sqlite_trees.specs.View.{IsStorable}
 use Rattle.sqlite_value.specs.Order.{number}
 use Rattle.sqlite_value.specs.declared.value.Value.{Value}
 use Rattle.lot_rows.specs.Migration.{migration_cells}
-use Rattle.lot_rows.specs.Tables.{Has, Tables, layout, migration_table, shapes}
+use Rattle.lot_rows.specs.Tables.{Has, Tables, layout, migration_table}
 use Rattle.lot_rows.proofs.StateLemmas.{early, survives_both}
 use Rattle.lot_stored.specs.Rows.{migration_row}
 use Rattle.lot_stored.proofs.LookupLemmas.{has_own_key}
 use Rattle.lot_table.proofs.BookLemmas.{on_ok}
 use Rattle.lot_table.proofs.MakeLemmas.{keeps_shown, keeps_then, keeps_undone}
-use Rattle.lot_table.proofs.ShapeLemmas.{free}
-use Rattle.lot_table.proofs.StatementLemmas.{IsDelete, IsTable, deletes_key}
-use Rattle.lot_table.proofs.WriteLemmas.{cast_int}
 use Rattle.lot_table.specs.Book.{Holds, IsUndone, StaysInside}
-use Rattle.lot_table.specs.Call.{Deletes, LacksRoom, Puts, Runs}
+use Rattle.lot_table.specs.Call.{Deletes, LacksRoom, Puts}
 use Rattle.lot_table.specs.Statement.{DiskFailed}
 use Rattle.lot_table.specs.declared.fault.Fault.{Fault}
 use Rattle.lot_write.specs.Write.{with_deleted}
 use Rattle.lot_restore.specs.Judge.{IsPlacedAt, PutsPlace}
 use lib.Ieee.{is_nan}
 
--- ---- the row of a place is deleted
+-- ---- the row of a place, and tables without one
 
 abbrev key_of : ℕ → Row
 key_of place = migration_cells (migration_row place)
-
-abbrev is_table : IsTable layout migration_table
-is_table = record {
-  aligned = λ _. refl;
-  held = λ _ _ h. h.1.1.1.1.1.1.1.1.1.1.1.1.0;
-  is_set = λ _ _. refl;
-  present = λ _. (refl, tt);
-  place = 12;
-  placed = refl;
-  free = free shapes migration_table.table (has_got layout.schema.tables 12 migration_table.table refl) refl;
-  uncounted = refl;
-  mends = λ _. refl;
-  stored = λ x. (cast_int (pos x.entries), tt);
-  judged = λ _ _. (refl, refl, refl, refl);
-}
-
-abbrev delete_text : List ℕ
-delete_text = codes "DELETE FROM migration WHERE entries = ?1"
-
-delete_is : (place : ℕ) → IsDelete layout migration_table is_table (key_of place) delete_text
-unfolding understood everything
-delete_is place = record { means = refl; bare = (refl, refl); whole = (omega arith, refl); some = (refl, tt); typed = refl }
-
-pub deletes_row : (old new : State) (place : ℕ) {A : Type 0} (result : Result A Fault) → Runs delete_text (key_of place) old new result
-    → Deletes layout migration_table (key_of place) old new result
-deletes_row old new place = deletes_key layout migration_table is_table old new delete_text (key_of place) (delete_is place)
 
 -- tables without a place
 abbrev unplaced : Tables → Tables

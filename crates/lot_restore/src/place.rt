@@ -2,15 +2,11 @@
 ghost use Rattle.std.specs.Prelude.{◌≡◌, ◌<◌, IsTrue};
 ghost use Rattle.lot_book.specs.Refusals.{most_entries};
 ghost use Rattle.lot_restore.specs.Judge.{PutsPlace};
-ghost use Rattle.lot_rows.specs.Migration.{migration_cells};
-ghost use Rattle.lot_rows.specs.Tables.{layout, migration_table};
-ghost use Rattle.lot_stored.specs.Rows.{migration_row};
-ghost use Rattle.lot_table.specs.Call.{Deletes};
 ghost use Rattle.sqlite.specs.Held.{state};
 ghost use Rattle.sqlite.specs.State.{HasCleanDisk};
 
 use lot_rows::migration::{self, MigrationRow};
-use lot_table::{Cell, Fault, change};
+use lot_table::Fault;
 use sqlite::{Alter, Transaction};
 
 /// Puts the place of migration that is one behind this one, in the open transaction. The place is the key of its row, so the row
@@ -25,26 +21,11 @@ pub(crate) fn put_next<S: Alter>(tx: &mut Transaction<'_, S>, before: u32) -> Re
     ensures puts { PutsPlace before
         (state S.Store tx.old.conn.now) (state S.Store tx.new.conn.now) result }
 {
-    delete(tx, before)?;
+    migration::delete(tx, before)?;
     migration::put(
         tx,
         &MigrationRow {
             entries: before + 1,
         },
-    )
-}
-
-/// Deletes the row of a place of migration, if there is one.
-fn delete<S: Alter>(tx: &mut Transaction<'_, S>, place: u32) -> Result<(), Fault>
-    requires { HasCleanDisk (state S.Store tx.old.conn.now)
-        → IsTrue (state S.Store tx.old.conn.now).in_transaction }
-    ensures same_reference { tx.new.conn.ghost_name ≡ tx.old.conn.ghost_name }
-    ensures deletes { Deletes layout migration_table (migration_cells (migration_row place))
-        (state S.Store tx.old.conn.now) (state S.Store tx.new.conn.now) result }
-{
-    change(
-        tx,
-        "DELETE FROM migration WHERE entries = ?1",
-        &[place.to_cell()],
     )
 }

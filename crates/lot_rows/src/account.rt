@@ -7,11 +7,18 @@ ghost use Rattle.sqlite.specs.Held.{state};
 ghost use Rattle.sqlite.specs.State.{HasCleanDisk};
 ghost use Rattle.sqlite.specs.declared.types.Value.TheVariants.{Text};
 
+use crate::columns::account_text;
 use lot_base::{Account, Day};
 use lot_cost::Method;
 use lot_table::{Cell, Fault, Queryable, TableRow, change, column, find as find_row};
 use sqlite::{Alter, Row, Transaction};
 use std::alloc::Global;
+
+/// The query for all rows, by their key.
+pub const LIST: &str = account_text!(list);
+
+/// The query for what tells the row at a place.
+pub const SHOW: &str = account_text!(show of "name");
 
 /// A row of the table `account`: an account, the days on which it was opened and closed, and its method.
 #[derive(Drop)]
@@ -50,7 +57,7 @@ pub fn put<S: Alter>(tx: &mut Transaction<'_, S>, row: &AccountRow) -> Result<()
 {
     change(
         tx,
-        "INSERT OR REPLACE INTO account (name, opened, closed, method) VALUES (?1, ?2, ?3, ?4)",
+        account_text!(put),
         &[
             row.name.to_cell(),
             row.opened.to_cell(),
@@ -71,10 +78,5 @@ pub fn find<D: Queryable>(
         (λ b. with_key account_cells 1 (Text name.now ∷ []) b.account)
         (D.shown conn.old) (D.shown conn.new) result }
 {
-    find_row(
-        alloc,
-        conn,
-        "SELECT name, opened, closed, method FROM account WHERE name = ?1 ORDER BY name",
-        &[name.to_cell()],
-    )
+    find_row(alloc, conn, account_text!(find), &[name.to_cell()])
 }

@@ -7,10 +7,17 @@ ghost use Rattle.sqlite.specs.Held.{state};
 ghost use Rattle.sqlite.specs.State.{HasCleanDisk};
 ghost use Rattle.sqlite.specs.declared.types.Value.TheVariants.{Text};
 
+use crate::columns::allowed_text;
 use lot_base::{Account, Commodity};
 use lot_table::{Cell, Fault, Queryable, TableRow, change, column, select};
 use sqlite::{Alter, Row, Transaction};
 use std::alloc::Global;
+
+/// The query for all rows, by their key.
+pub const LIST: &str = allowed_text!(list);
+
+/// The query for what tells the row at a place.
+pub const SHOW: &str = allowed_text!(show of "account || ' ' || commodity");
 
 /// A row of the table `allowed`: a currency of an opening, and its place there.
 #[derive(Drop)]
@@ -48,7 +55,7 @@ pub fn put<S: Alter>(tx: &mut Transaction<'_, S>, row: &AllowedRow) -> Result<()
 {
     change(
         tx,
-        "INSERT OR REPLACE INTO allowed (account, place, commodity) VALUES (?1, ?2, ?3)",
+        allowed_text!(put),
         &[
             row.account.to_cell(),
             row.place.to_cell(),
@@ -71,7 +78,7 @@ pub fn list_of<D: Queryable>(
     select(
         alloc,
         conn,
-        "SELECT account, place, commodity FROM allowed WHERE account = ?1 ORDER BY account, place",
+        allowed_text!(list of "account = ?1"),
         &[account.to_cell()],
     )
 }

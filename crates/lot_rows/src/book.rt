@@ -5,9 +5,16 @@ ghost use Rattle.lot_table.specs.Call.{Puts};
 ghost use Rattle.sqlite.specs.Held.{state};
 ghost use Rattle.sqlite.specs.State.{HasCleanDisk};
 
+use crate::columns::book_text;
 use lot_table::{AnyText, Cell, Fault, TableRow, change, column};
 use sqlite::{Alter, Row, Transaction};
 use std::alloc::Global;
+
+/// The query for all rows, by their key.
+pub const LIST: &str = book_text!(list);
+
+/// The query for the row of a book.
+pub const MARKED: &str = book_text!(list of "mark = 'lot-book'");
 
 /// The row of the table `book`, which marks a database as a book.
 #[derive(Drop)]
@@ -42,7 +49,7 @@ pub fn put<S: Alter>(tx: &mut Transaction<'_, S>, row: &BookRow) -> Result<(), F
 {
     change(
         tx,
-        "INSERT OR REPLACE INTO book (mark, edition) VALUES (?1, ?2)",
+        book_text!(put),
         &[row.mark.to_cell(), row.edition.to_cell()],
     )
 }

@@ -7,10 +7,17 @@ ghost use Rattle.sqlite.specs.Held.{state};
 ghost use Rattle.sqlite.specs.State.{HasCleanDisk};
 ghost use Rattle.sqlite.specs.declared.types.Value.TheVariants.{Text};
 
+use crate::columns::commodity_text;
 use lot_base::{Commodity, Day};
 use lot_table::{Cell, Fault, Queryable, TableRow, change, column, find as find_row};
 use sqlite::{Alter, Row, Transaction};
 use std::alloc::Global;
+
+/// The query for all rows, by their key.
+pub const LIST: &str = commodity_text!(list);
+
+/// The query for what tells the row at a place.
+pub const SHOW: &str = commodity_text!(show of "name");
 
 /// A row of the table `commodity`: a commodity, and the day on which it was declared.
 #[derive(Drop)]
@@ -45,7 +52,7 @@ pub fn put<S: Alter>(tx: &mut Transaction<'_, S>, row: &CommodityRow) -> Result<
 {
     change(
         tx,
-        "INSERT OR REPLACE INTO commodity (name, day) VALUES (?1, ?2)",
+        commodity_text!(put),
         &[row.name.to_cell(), row.day.to_cell()],
     )
 }
@@ -61,10 +68,5 @@ pub fn find<D: Queryable>(
         (λ b. with_key commodity_cells 1 (Text name.now ∷ []) b.commodity)
         (D.shown conn.old) (D.shown conn.new) result }
 {
-    find_row(
-        alloc,
-        conn,
-        "SELECT name, day FROM commodity WHERE name = ?1 ORDER BY name",
-        &[name.to_cell()],
-    )
+    find_row(alloc, conn, commodity_text!(find), &[name.to_cell()])
 }

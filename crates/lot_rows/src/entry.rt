@@ -7,12 +7,19 @@ ghost use Rattle.sqlite.specs.Held.{state};
 ghost use Rattle.sqlite.specs.State.{HasCleanDisk};
 ghost use Rattle.lot_rows.specs.declared.entry.NumberRow.{NumberRow};
 
+use crate::columns::entry_text;
 use lot_base::Label;
 use lot_table::{
     AnyText, Cell, Fault, Ordinal, Queryable, TableRow, change, column, find as find_row,
 };
 use sqlite::{Alter, Row, Transaction};
 use std::alloc::Global;
+
+/// The query for the greatest number.
+pub const GREATEST: &str = "SELECT number FROM entry ORDER BY number DESC LIMIT 1";
+
+/// The query for the next rows from a number on.
+pub const PAGE_FROM_NUMBER: &str = entry_text!(page of "number >= ?2");
 
 /// A row of the table `entry`: an accepted command by its number and its key, with its canonical text.
 #[derive(Drop)]
@@ -51,7 +58,7 @@ pub fn add<S: Alter>(tx: &mut Transaction<'_, S>, row: &EntryRow) -> Result<(), 
 {
     change(
         tx,
-        "INSERT INTO entry (number, source, name, body) VALUES (?1, ?2, ?3, ?4)",
+        entry_text!(insert),
         &[
             row.number.to_cell(),
             row.source.to_cell(),
@@ -75,7 +82,7 @@ pub fn find<D: Queryable>(
     find_row(
         alloc,
         conn,
-        "SELECT number, source, name, body FROM entry WHERE source = ?1 AND name = ?2 ORDER BY number",
+        entry_text!(list of "source = ?1 AND name = ?2"),
         &[source.to_cell(), name.to_cell()],
     )
 }
@@ -119,10 +126,5 @@ fn greatest_row<D: Queryable>(alloc: Global, conn: &mut D) -> Result<Option<Numb
         ≡ greatest_number b.entry) always (λ b. All IsEntryRow b.entry)
         (D.shown conn.old) (D.shown conn.new) result }
 {
-    find_row(
-        alloc,
-        conn,
-        "SELECT number FROM entry ORDER BY number DESC LIMIT 1",
-        &[],
-    )
+    find_row(alloc, conn, GREATEST, &[])
 }

@@ -7,10 +7,17 @@ ghost use Rattle.sqlite.specs.Held.{state};
 ghost use Rattle.sqlite.specs.State.{HasCleanDisk};
 ghost use Rattle.sqlite.specs.declared.types.Value.TheVariants.{Text};
 
+use crate::columns::head_text;
 use lot_base::{Account, Commodity, Day};
 use lot_table::{Cell, Fault, Queryable, TableRow, change, column, find as find_row};
 use sqlite::{Alter, Row, Transaction};
 use std::alloc::Global;
+
+/// The query for all rows, by their key.
+pub const LIST: &str = head_text!(list);
+
+/// The query for what tells the row at a place.
+pub const SHOW: &str = head_text!(show of "account || ' ' || commodity");
 
 /// A row of the table `head`: the latest day of a transaction that posted with braces to an account and a commodity.
 #[derive(Drop)]
@@ -47,7 +54,7 @@ pub fn put<S: Alter>(tx: &mut Transaction<'_, S>, row: &HeadRow) -> Result<(), F
 {
     change(
         tx,
-        "INSERT OR REPLACE INTO head (account, commodity, day) VALUES (?1, ?2, ?3)",
+        head_text!(put),
         &[
             row.account.to_cell(),
             row.commodity.to_cell(),
@@ -66,7 +73,7 @@ pub fn set<S: Alter>(tx: &mut Transaction<'_, S>, row: &HeadRow) -> Result<(), F
 {
     change(
         tx,
-        "UPDATE head SET day = ?3 WHERE account = ?1 AND commodity = ?2",
+        head_text!(set),
         &[
             row.account.to_cell(),
             row.commodity.to_cell(),
@@ -90,7 +97,7 @@ pub fn find<D: Queryable>(
     find_row(
         alloc,
         conn,
-        "SELECT account, commodity, day FROM head WHERE account = ?1 AND commodity = ?2 ORDER BY account, commodity",
+        head_text!(find),
         &[account.to_cell(), commodity.to_cell()],
     )
 }

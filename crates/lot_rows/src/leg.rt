@@ -7,6 +7,7 @@ ghost use Rattle.sqlite.specs.Held.{state};
 ghost use Rattle.sqlite.specs.State.{HasCleanDisk};
 ghost use Rattle.sqlite.specs.declared.types.Value.TheVariants.{Int};
 
+use crate::columns::leg_text;
 use crate::cost;
 use lot_base::{Account, Commodity};
 use lot_cost::LotKey;
@@ -14,6 +15,22 @@ use lot_num::Units;
 use lot_table::{Cell, Fault, Ordinal, Queryable, TableRow, change, column, select};
 use sqlite::{Alter, Row, Transaction};
 use std::alloc::Global;
+
+/// The query for the rows of an entry, by their key.
+pub const LIST_OF_ENTRY: &str = leg_text!(list of "entry = ?1");
+
+/// The query for the last row of a commodity in an account that is of a lot.
+pub const LAST_AT_COST: &str =
+    leg_text!(last of "account = ?1 AND commodity = ?2 AND cost_day IS NOT NULL");
+
+/// The query for the next rows from an entry on.
+pub const PAGE_FROM_ENTRY: &str = leg_text!(page of "entry >= ?2");
+
+/// The query for the next rows of an entry behind a posting.
+pub const PAGE_BEHIND_POSTING: &str = leg_text!(page of "entry = ?2 AND posting > ?3");
+
+/// The query for the next rows of a posting behind a place.
+pub const PAGE_BEHIND_PLACE: &str = leg_text!(page of "entry = ?2 AND posting = ?3 AND place > ?4");
 
 /// A row of the table `leg`: units that a posting of an entry put into a position. Below zero it took them out.
 #[derive(Drop)]
@@ -60,7 +77,7 @@ pub fn add<S: Alter>(tx: &mut Transaction<'_, S>, row: &LegRow) -> Result<(), Fa
 {
     change(
         tx,
-        "INSERT INTO leg (entry, posting, place, account, commodity, units, cost_number, cost_currency, cost_day, cost_label) VALUES (?1, ?2, ?3, ?4, ?5, ?6, ?7, ?8, ?9, ?10)",
+        leg_text!(insert),
         &[
             row.entry.to_cell(),
             row.posting.to_cell(),
@@ -91,7 +108,7 @@ pub fn list_of<D: Queryable>(
     select(
         alloc,
         conn,
-        "SELECT entry, posting, place, account, commodity, units, cost_number, cost_currency, cost_day, cost_label FROM leg WHERE entry = ?1 AND posting = ?2 ORDER BY entry, posting, place",
+        leg_text!(list of "entry = ?1 AND posting = ?2"),
         &[entry.to_cell(), posting.to_cell()],
     )
 }

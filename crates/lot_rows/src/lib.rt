@@ -9,6 +9,7 @@
 pub mod account;
 pub mod allowed;
 pub mod book;
+mod columns;
 pub mod commodity;
 mod cost;
 pub mod entry;

@@ -8,12 +8,38 @@ ghost use Rattle.sqlite.specs.Held.{state};
 ghost use Rattle.sqlite.specs.State.{HasCleanDisk};
 ghost use Rattle.sqlite.specs.declared.types.Value.TheVariants.{Text};
 
+use crate::columns::lot_text;
 use crate::lot_key;
 use lot_base::{Account, Commodity};
 use lot_cost::LotKey;
 use lot_table::{Cell, Fault, Queryable, Sum, TableRow, change, column, select};
 use sqlite::{Alter, Row, Transaction};
 use std::alloc::Global;
+
+/// The query for all rows, by their key.
+pub const LIST: &str = lot_text!(list);
+
+/// The query for the row of a key.
+pub const FIND: &str = lot_text!(find);
+
+/// The query for the first row of an account.
+pub const FIRST_OF_ACCOUNT: &str = lot_text!(first of "account = ?1");
+
+/// The queries for the next rows from a value of one column of the key on, by how many columns before it are the same.
+pub const PAGES_FROM: [&str; 5] = [
+    lot_text!(page of "account >= ?2"),
+    lot_text!(page of "account = ?2 AND commodity >= ?3"),
+    lot_text!(page of "account = ?2 AND commodity = ?3 AND cost_day >= ?4"),
+    lot_text!(page of "account = ?2 AND commodity = ?3 AND cost_day = ?4 AND cost_currency >= ?5"),
+    lot_text!(page of "account = ?2 AND commodity = ?3 AND cost_day = ?4 AND cost_currency = ?5 AND cost_number >= ?6"),
+];
+
+/// The query for the next rows behind a label, of a cost, a day and a commodity in an account.
+pub const PAGE_BEHIND_LABEL: &str =
+    lot_text!(page of "account = ?2 AND commodity = ?3 AND cost_day = ?4 AND cost_currency = ?5 AND cost_number = ?6 AND cost_label > ?7");
+
+/// The query for what tells the row at a place.
+pub const SHOW: &str = lot_text!(show of "account || ' ' || commodity");
 
 /// A row of the table `lot`: the units that an account has in a lot.
 #[derive(Drop)]
@@ -57,7 +83,7 @@ pub fn put<S: Alter>(tx: &mut Transaction<'_, S>, row: &LotRow) -> Result<(), Fa
 {
     change(
         tx,
-        "INSERT OR REPLACE INTO lot (account, commodity, cost_day, cost_currency, cost_number, cost_label, units) VALUES (?1, ?2, ?3, ?4, ?5, ?6, ?7)",
+        lot_text!(put),
         &lot_key::cells_with(&row.account, &row.commodity, &row.lot, row.units.to_cell()),
     )
 }
@@ -72,7 +98,7 @@ pub fn set<S: Alter>(tx: &mut Transaction<'_, S>, row: &LotRow) -> Result<(), Fa
 {
     change(
         tx,
-        "UPDATE lot SET units = ?7 WHERE account = ?1 AND commodity = ?2 AND cost_day = ?3 AND cost_currency = ?4 AND cost_number = ?5 AND cost_label = ?6",
+        lot_text!(set),
         &lot_key::cells_with(&row.account, &row.commodity, &row.lot, row.units.to_cell()),
     )
 }
@@ -92,7 +118,7 @@ pub fn delete<S: Alter>(
 {
     change(
         tx,
-        "DELETE FROM lot WHERE account = ?1 AND commodity = ?2 AND cost_day = ?3 AND cost_currency = ?4 AND cost_number = ?5 AND cost_label = ?6",
+        lot_text!(delete),
         &lot_key::cells(account, commodity, lot),
     )
 }
@@ -113,7 +139,7 @@ pub fn list_of<D: Queryable>(
     select(
         alloc,
         conn,
-        "SELECT account, commodity, cost_day, cost_currency, cost_number, cost_label, units FROM lot WHERE account = ?1 AND commodity = ?2 ORDER BY account, commodity, cost_day, cost_currency, cost_number, cost_label",
+        lot_text!(list of "account = ?1 AND commodity = ?2"),
         &[account.to_cell(), commodity.to_cell()],
     )
 }

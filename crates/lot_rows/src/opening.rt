@@ -8,12 +8,22 @@ ghost use Rattle.sqlite.specs.Held.{state};
 ghost use Rattle.sqlite.specs.State.{HasCleanDisk};
 ghost use Rattle.sqlite.specs.declared.types.Value.TheVariants.{Text};
 
+use crate::columns::opening_text;
 use crate::lot_key;
 use lot_base::{Account, Commodity};
 use lot_cost::LotKey;
 use lot_table::{Cell, Fault, OpeningNumber, Queryable, TableRow, change, column, select};
 use sqlite::{Alter, Row, Transaction};
 use std::alloc::Global;
+
+/// The query for all rows, by their key.
+pub const LIST: &str = opening_text!(list);
+
+/// The query for the row of a key.
+pub const FIND: &str = opening_text!(find);
+
+/// The query for what tells the row at a place.
+pub const SHOW: &str = opening_text!(show of "account || ' ' || commodity");
 
 /// A row of the table `opening`: the opening number of a lot in which an account has units.
 #[derive(Drop)]
@@ -57,7 +67,7 @@ pub fn put<S: Alter>(tx: &mut Transaction<'_, S>, row: &OpeningRow) -> Result<()
 {
     change(
         tx,
-        "INSERT OR REPLACE INTO opening (account, commodity, cost_day, cost_currency, cost_number, cost_label, opening) VALUES (?1, ?2, ?3, ?4, ?5, ?6, ?7)",
+        opening_text!(put),
         &lot_key::cells_with(
             &row.account,
             &row.commodity,
@@ -82,7 +92,7 @@ pub fn delete<S: Alter>(
 {
     change(
         tx,
-        "DELETE FROM opening WHERE account = ?1 AND commodity = ?2 AND cost_day = ?3 AND cost_currency = ?4 AND cost_number = ?5 AND cost_label = ?6",
+        opening_text!(delete),
         &lot_key::cells(account, commodity, lot),
     )
 }
@@ -103,7 +113,7 @@ pub fn list_of<D: Queryable>(
     select(
         alloc,
         conn,
-        "SELECT account, commodity, cost_day, cost_currency, cost_number, cost_label, opening FROM opening WHERE account = ?1 AND commodity = ?2 ORDER BY account, commodity, cost_day, cost_currency, cost_number, cost_label",
+        opening_text!(list of "account = ?1 AND commodity = ?2"),
         &[account.to_cell(), commodity.to_cell()],
     )
 }

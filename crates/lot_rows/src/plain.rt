@@ -7,10 +7,17 @@ ghost use Rattle.sqlite.specs.Held.{state};
 ghost use Rattle.sqlite.specs.State.{HasCleanDisk};
 ghost use Rattle.sqlite.specs.declared.types.Value.TheVariants.{Text};
 
+use crate::columns::plain_text;
 use lot_base::{Account, Commodity};
 use lot_table::{Cell, Fault, Queryable, Sum, TableRow, change, column, find as find_row, select};
 use sqlite::{Alter, Row, Transaction};
 use std::alloc::Global;
+
+/// The query for all rows, by their key.
+pub const LIST: &str = plain_text!(list);
+
+/// The query for what tells the row at a place.
+pub const SHOW: &str = plain_text!(show of "account || ' ' || commodity");
 
 /// A row of the table `plain`: the units of a commodity that an account has without a cost.
 #[derive(Drop)]
@@ -47,7 +54,7 @@ pub fn put<S: Alter>(tx: &mut Transaction<'_, S>, row: &PlainRow) -> Result<(), 
 {
     change(
         tx,
-        "INSERT OR REPLACE INTO plain (account, commodity, units) VALUES (?1, ?2, ?3)",
+        plain_text!(put),
         &[
             row.account.to_cell(),
             row.commodity.to_cell(),
@@ -66,7 +73,7 @@ pub fn set<S: Alter>(tx: &mut Transaction<'_, S>, row: &PlainRow) -> Result<(), 
 {
     change(
         tx,
-        "UPDATE plain SET units = ?3 WHERE account = ?1 AND commodity = ?2",
+        plain_text!(set),
         &[
             row.account.to_cell(),
             row.commodity.to_cell(),
@@ -89,7 +96,7 @@ pub fn delete<S: Alter>(
 {
     change(
         tx,
-        "DELETE FROM plain WHERE account = ?1 AND commodity = ?2",
+        plain_text!(delete),
         &[account.to_cell(), commodity.to_cell()],
     )
 }
@@ -109,7 +116,7 @@ pub fn find<D: Queryable>(
     find_row(
         alloc,
         conn,
-        "SELECT account, commodity, units FROM plain WHERE account = ?1 AND commodity = ?2 ORDER BY account, commodity",
+        plain_text!(find),
         &[account.to_cell(), commodity.to_cell()],
     )
 }
@@ -128,7 +135,7 @@ pub fn list_of<D: Queryable>(
     select(
         alloc,
         conn,
-        "SELECT account, commodity, units FROM plain WHERE account = ?1 ORDER BY account, commodity",
+        plain_text!(list of "account = ?1"),
         &[account.to_cell()],
     )
 }
@@ -139,10 +146,5 @@ pub fn list<D: Queryable>(alloc: Global, conn: &mut D) -> Result<Vec<PlainRow>, 
     ensures lists { Lists layout IsPlainRow
         (λ b. b.plain) (D.shown conn.old) (D.shown conn.new) result }
 {
-    select(
-        alloc,
-        conn,
-        "SELECT account, commodity, units FROM plain ORDER BY account, commodity",
-        &[],
-    )
+    select(alloc, conn, LIST, &[])
 }

@@ -5,11 +5,30 @@ ghost use Rattle.lot_table.specs.Call.{Puts};
 ghost use Rattle.sqlite.specs.Held.{state};
 ghost use Rattle.sqlite.specs.State.{HasCleanDisk};
 
+use crate::columns::price_text;
 use lot_base::{Commodity, Day};
 use lot_num::Rate;
 use lot_table::{Cell, Fault, TableRow, change, column};
 use sqlite::{Alter, Row, Transaction};
 use std::alloc::Global;
+
+/// The query for all rows, by their key.
+pub const LIST: &str = price_text!(list);
+
+/// The query for the row of a key.
+pub const FIND: &str = price_text!(find);
+
+/// The query for the next rows from a base on.
+pub const PAGE_FROM_BASE: &str = price_text!(page of "base >= ?2");
+
+/// The query for the next rows of a base from a quote on.
+pub const PAGE_FROM_QUOTE: &str = price_text!(page of "base = ?2 AND quote >= ?3");
+
+/// The query for the next rows of a pair behind a day.
+pub const PAGE_BEHIND_DAY: &str = price_text!(page of "base = ?2 AND quote = ?3 AND day > ?4");
+
+/// The query for what tells the row at a place.
+pub const SHOW: &str = price_text!(show of "base || ' ' || quote || ' ' || day");
 
 /// A row of the table `price`: the last accepted price of a pair and a day.
 #[derive(Drop)]
@@ -48,7 +67,7 @@ pub fn put<S: Alter>(tx: &mut Transaction<'_, S>, row: &PriceRow) -> Result<(), 
 {
     change(
         tx,
-        "INSERT OR REPLACE INTO price (base, quote, day, rate) VALUES (?1, ?2, ?3, ?4)",
+        price_text!(put),
         &[
             row.base.to_cell(),
             row.quote.to_cell(),

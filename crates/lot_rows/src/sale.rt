@@ -5,12 +5,19 @@ ghost use Rattle.lot_table.specs.Call.{Adds};
 ghost use Rattle.sqlite.specs.Held.{state};
 ghost use Rattle.sqlite.specs.State.{HasCleanDisk};
 
+use crate::columns::sale_text;
 use crate::sale_price;
 use lot_base::{Account, Commodity, Day};
 use lot_command::Price;
 use lot_table::{Cell, Fault, Ordinal, Sum, TableRow, change, column};
 use sqlite::{Alter, Row, Transaction};
 use std::alloc::Global;
+
+/// The query for the next rows from an entry on.
+pub const PAGE_FROM_ENTRY: &str = sale_text!(page of "entry >= ?2");
+
+/// The query for the next rows of an entry behind a posting.
+pub const PAGE_BEHIND_POSTING: &str = sale_text!(page of "entry = ?2 AND posting > ?3");
 
 /// A row of the table `sale`: a posting that took lots away, with its price, if it has one.
 #[derive(Drop)]
@@ -55,7 +62,7 @@ pub fn add<S: Alter>(tx: &mut Transaction<'_, S>, row: &SaleRow) -> Result<(), F
 {
     change(
         tx,
-        "INSERT INTO sale (entry, posting, day, account, commodity, units, kind, amount, currency) VALUES (?1, ?2, ?3, ?4, ?5, ?6, ?7, ?8, ?9)",
+        sale_text!(insert),
         &[
             row.entry.to_cell(),
             row.posting.to_cell(),

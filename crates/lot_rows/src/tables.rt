@@ -16,14 +16,12 @@ ghost use Rattle.sqlite.specs.State.{HasCleanDisk, KeepsCommit, Survives};
 ghost use Rattle.sqlite_catalog.specs.Change.{KeepsRows};
 ghost use Rattle.sqlite_catalog.specs.Listing.{IsSound};
 
+use crate::columns::{
+    account_text, allowed_text, book_text, commodity_text, entry_text, head_text, leg_text,
+    lot_text, migration_text, opening_text, plain_text, price_text, sale_text,
+};
 use lot_table::{Fault, MakeFault, make_each};
 use sqlite::{Alter, Transaction};
-
-const OPENING: &str =
-    "CREATE TABLE opening (account TEXT NOT NULL, commodity TEXT NOT NULL, cost_day INTEGER NOT NULL, cost_currency TEXT NOT NULL, cost_number INTEGER NOT NULL, cost_label TEXT NOT NULL, opening INTEGER NOT NULL, UNIQUE (account, commodity, cost_day, cost_currency, cost_number, cost_label)) STRICT";
-
-const MIGRATION: &str =
-    "CREATE TABLE migration (entries INTEGER NOT NULL, UNIQUE (entries)) STRICT";
 
 /// Makes the thirteen tables of a book.
 ///
@@ -59,19 +57,19 @@ pub fn make<S: Alter>(tx: &mut Transaction<'_, S>) -> Result<(), MakeFault>
     make_each(
         tx,
         &[
-            "CREATE TABLE book (mark TEXT NOT NULL, edition INTEGER NOT NULL, UNIQUE (mark)) STRICT",
-            "CREATE TABLE account (name TEXT NOT NULL, opened INTEGER NOT NULL, closed INTEGER, method TEXT NOT NULL, UNIQUE (name)) STRICT",
-            "CREATE TABLE allowed (account TEXT NOT NULL, place INTEGER NOT NULL, commodity TEXT NOT NULL, UNIQUE (account, place)) STRICT",
-            "CREATE TABLE commodity (name TEXT NOT NULL, day INTEGER NOT NULL, UNIQUE (name)) STRICT",
-            "CREATE TABLE price (base TEXT NOT NULL, quote TEXT NOT NULL, day INTEGER NOT NULL, rate INTEGER NOT NULL, UNIQUE (base, quote, day)) STRICT",
-            "CREATE TABLE entry (number INTEGER NOT NULL, source TEXT NOT NULL, name TEXT NOT NULL, body TEXT NOT NULL, UNIQUE (number), UNIQUE (source, name)) STRICT",
-            "CREATE TABLE leg (entry INTEGER NOT NULL, posting INTEGER NOT NULL, place INTEGER NOT NULL, account TEXT NOT NULL, commodity TEXT NOT NULL, units INTEGER NOT NULL, cost_number INTEGER, cost_currency TEXT, cost_day INTEGER, cost_label TEXT, UNIQUE (entry, posting, place)) STRICT",
-            "CREATE TABLE sale (entry INTEGER NOT NULL, posting INTEGER NOT NULL, day INTEGER NOT NULL, account TEXT NOT NULL, commodity TEXT NOT NULL, units INTEGER NOT NULL, kind INTEGER NOT NULL, amount INTEGER, currency TEXT, UNIQUE (entry, posting)) STRICT",
-            "CREATE TABLE lot (account TEXT NOT NULL, commodity TEXT NOT NULL, cost_day INTEGER NOT NULL, cost_currency TEXT NOT NULL, cost_number INTEGER NOT NULL, cost_label TEXT NOT NULL, units INTEGER NOT NULL, UNIQUE (account, commodity, cost_day, cost_currency, cost_number, cost_label)) STRICT",
-            "CREATE TABLE plain (account TEXT NOT NULL, commodity TEXT NOT NULL, units INTEGER NOT NULL, UNIQUE (account, commodity)) STRICT",
-            "CREATE TABLE head (account TEXT NOT NULL, commodity TEXT NOT NULL, day INTEGER NOT NULL, UNIQUE (account, commodity)) STRICT",
-            OPENING,
-            MIGRATION,
+            book_text!(make),
+            account_text!(make),
+            allowed_text!(make),
+            commodity_text!(make),
+            price_text!(make),
+            entry_text!(make),
+            leg_text!(make),
+            sale_text!(make),
+            lot_text!(make),
+            plain_text!(make),
+            head_text!(make),
+            opening_text!(make),
+            migration_text!(make),
         ],
     )
 }
@@ -116,5 +114,5 @@ pub fn add_later<S: Alter>(tx: &mut Transaction<'_, S>) -> Result<(), MakeFault>
     ensures crash { Survives (state S.Store tx.old.conn.now) (state S.Store tx.new.conn.now)
         (λ _. ⊥) }
 {
-    make_each(tx, &[OPENING, MIGRATION])
+    make_each(tx, &[opening_text!(make), migration_text!(make)])
 }

@@ -7,7 +7,7 @@ ghost use Rattle.sqlite.specs.State.{HasCleanDisk, IsUnchanged, Survives};
 
 use crate::book::{Book, Condition};
 use crate::fault::{AdoptFault, HandedBack};
-use lot_rows::book::BookRow;
+use lot_rows::book::{self, BookRow};
 use lot_stored::EDITION;
 use lot_table::{TableRow, ask};
 use sqlite::{Alter, Connection, Row};
@@ -76,7 +76,7 @@ fn tell<S: Alter>(alloc: Global, conn: &mut Connection<S>) -> Result<(), AdoptFa
         → OnErr result (IsUndone (state S.Store conn.old) (state S.Store conn.new)) }
     ensures crash { Survives (state S.Store conn.old) (state S.Store conn.new) (λ _. ⊥) }
 {
-    let rows = ask(conn, "SELECT mark, edition FROM book ORDER BY mark", &[])?;
+    let rows = ask(conn, book::LIST, &[])?;
     tell_rows(alloc, &rows)
 }
 

@@ -1,17 +1,15 @@
 //! How far a book goes: two rows tell it.
 ghost use Rattle.std.specs.Prelude.{◌≡◌};
 ghost use Rattle.std.specs.Option.{unwrap_or};
-ghost use Rattle.lot_rows.specs.Migration.{IsMigrationRow};
 ghost use Rattle.lot_rows.specs.Tables.{layout};
 ghost use Rattle.lot_stored.specs.StandFor.{AreOfBook};
 ghost use Rattle.lot_table.specs.Book.{always};
-ghost use Rattle.lot_table.specs.Call.{Answers, Lists};
+ghost use Rattle.lot_table.specs.Call.{Answers};
 ghost use Rattle.lot_store.specs.Extent.{IsExtent, SaysPlace};
 ghost use Rattle.sqlite.specs.Held.{state};
 
-use lot_rows::entry;
-use lot_rows::migration::MigrationRow;
-use lot_table::{Fault, Ordinal, select};
+use lot_rows::{entry, migration};
+use lot_table::{Fault, Ordinal};
 use sqlite::{Alter, Connection};
 use std::alloc::Global;
 
@@ -52,22 +50,9 @@ fn place_of<S: Alter>(alloc: Global, conn: &mut Connection<S>) -> Result<u32, Fa
     ensures answers { Answers layout SaysPlace always AreOfBook
         (state S.Store conn.old) (state S.Store conn.new) result }
 {
-    let rows = migrations(alloc, conn)?;
+    let rows = migration::list(alloc, conn)?;
     let [row] = rows.as_slice() else {
         return Err(Fault::Damaged);
     };
     Ok(row.entries)
-}
-
-/// Returns all rows of the table `migration`, by their number.
-fn migrations<S: Alter>(alloc: Global, conn: &mut Connection<S>) -> Result<Vec<MigrationRow>, Fault>
-    ensures lists { Lists layout IsMigrationRow (λ b. b.migration)
-        (state S.Store conn.old) (state S.Store conn.new) result }
-{
-    select(
-        alloc,
-        conn,
-        "SELECT entries FROM migration ORDER BY entries",
-        &[],
-    )
 }

@@ -1,4 +1,5 @@
 use lot_audit::{Spot, Table, Watch, judge_book};
+use lot_rows::{account, allowed, commodity, head, lot, opening, plain, price};
 use lot_table::Fault;
 use sqlite::types::ValueRef;
 use sqlite::{Alter, Connection};
@@ -80,26 +81,14 @@ fn key_of<S: Alter>(conn: &mut Connection<S>, table: Table, place: i64) -> Optio
 /// Returns the query for the key of the row at a place in a table whose rows are looked at.
 fn query_of(table: Table) -> Option<&'static str> {
     match table {
-        Table::Account => Some("SELECT name FROM account ORDER BY name LIMIT 1 OFFSET ?1"),
-        Table::Allowed => Some(
-            "SELECT account || ' ' || commodity FROM allowed ORDER BY account, place LIMIT 1 OFFSET ?1",
-        ),
-        Table::Commodity => Some("SELECT name FROM commodity ORDER BY name LIMIT 1 OFFSET ?1"),
-        Table::Price => Some(
-            "SELECT base || ' ' || quote || ' ' || day FROM price ORDER BY base, quote, day LIMIT 1 OFFSET ?1",
-        ),
-        Table::Lot => Some(
-            "SELECT account || ' ' || commodity FROM lot ORDER BY account, commodity, cost_day, cost_currency, cost_number, cost_label LIMIT 1 OFFSET ?1",
-        ),
-        Table::Plain => Some(
-            "SELECT account || ' ' || commodity FROM plain ORDER BY account, commodity LIMIT 1 OFFSET ?1",
-        ),
-        Table::Head => Some(
-            "SELECT account || ' ' || commodity FROM head ORDER BY account, commodity LIMIT 1 OFFSET ?1",
-        ),
-        Table::Opening => Some(
-            "SELECT account || ' ' || commodity FROM opening ORDER BY account, commodity, cost_day, cost_currency, cost_number, cost_label LIMIT 1 OFFSET ?1",
-        ),
+        Table::Account => Some(account::SHOW),
+        Table::Allowed => Some(allowed::SHOW),
+        Table::Commodity => Some(commodity::SHOW),
+        Table::Price => Some(price::SHOW),
+        Table::Lot => Some(lot::SHOW),
+        Table::Plain => Some(plain::SHOW),
+        Table::Head => Some(head::SHOW),
+        Table::Opening => Some(opening::SHOW),
         Table::Entry | Table::Leg | Table::Sale | Table::Migration => None,
     }
 }

@@ -13,7 +13,7 @@ pages-preserved g c =
     let last = rw c.in-Some.is at c.in_ok-row.ensures.ok in (
       c.legs_behind.ensures.same_reference ∙ c.pages.invariant.0,
       folds_more (state g.S.Store c.args.tx.now.conn.now) (state g.S.Store c.pages.tx.conn.now)
-          (state g.S.Store c.legs_behind.new.tx.conn.now) c.pages.last c.pages.lots c.pages.invariant.1 c.post_page.new.lots
+          (state g.S.Store c.legs_behind.new.conn.conn.now) c.pages.last c.pages.lots c.pages.invariant.1 c.post_page.new.lots
           c.in_ok-page.page c.in-Some.row c.in_ok-page.ensures.pages (rw c.deref.ensures.value at last)
           (rw c.deref-in-pages.ensures.value at c.in_ok-post_page.ensures.posts),
     )
@@ -26,7 +26,7 @@ returns-in_err-page-clause-reads g c =
     let fault = err_from_is_err_and c.from_residual.result c.from_residual.ensures.1 in
     rw (fault.1, fault.2)
     (folds_unread (state g.S.Store c.args.tx.now.conn.now) (state g.S.Store c.pages.tx.conn.now)
-    (state g.S.Store c.legs_behind.new.tx.conn.now) c.pages.last c.pages.lots c.pages.invariant.1 c.in_err-page.field-0.0
+    (state g.S.Store c.legs_behind.new.conn.conn.now) c.pages.last c.pages.lots c.pages.invariant.1 c.in_err-page.field-0.0
     c.in_err-page.ensures.pages)
 
 pub returns-in_err-row-clause-reads : goal.returns-in_err-row-clause-reads
@@ -35,7 +35,7 @@ returns-in_err-row-clause-reads g c =
     let told = c.in_err-row.ensures in
     rw (fault.1, fault.2)
     (folds_stops (state g.S.Store c.args.tx.now.conn.now) (state g.S.Store c.pages.tx.conn.now)
-    (state g.S.Store c.legs_behind.new.tx.conn.now) c.pages.last c.pages.lots c.pages.invariant.1 c.in_ok-page.page
+    (state g.S.Store c.legs_behind.new.conn.conn.now) c.pages.last c.pages.lots c.pages.invariant.1 c.in_ok-page.page
     c.in_ok-page.ensures.pages c.in_err-row.field-0.0 (λ is. told.no_device (ap Err is))
     (λ is more legs same _. told.damaged (ap Err is) more legs.good (c.deref.ensures.value ∙ same)))
 
@@ -46,6 +46,6 @@ returns-in_err-post_page-clause-reads g c =
     let folds = c.pages.invariant.1 in
     rw (fault.1, fault.2)
     (folds_stops (state g.S.Store c.args.tx.now.conn.now) (state g.S.Store c.pages.tx.conn.now)
-    (state g.S.Store c.legs_behind.new.tx.conn.now) c.pages.last c.pages.lots folds c.in_ok-page.page
+    (state g.S.Store c.legs_behind.new.conn.conn.now) c.pages.last c.pages.lots folds c.in_ok-page.page
     c.in_ok-page.ensures.pages c.in_err-post_page.field-0.0 (λ is. told.no_device (ap Err is))
     (λ is more legs same. told.damaged (ap Err is) (map leg_of folds.rows) folds.keeps more legs (c.deref-in-pages.ensures.value ∙ same)))

@@ -1,6 +1,5 @@
 use Rattle.std.proofs.Common.{arith, pos, rules, ◌+ℤ◌}
 use Rattle.std.proofs.lemmas.List.{nil_from_length}
-use Rattle.sqlite.specs.Held.{state}
 use Rattle.lot_page.specs.Page.{page_rows}
 use Rattle.lot_page.proofs.LegLemmas.{asks_posting, mounts_1, past_first, posting_takes}
 use Rattle.lot_page.proofs.WalkLemmas.{later_pages, level_fails, level_pages}
@@ -14,8 +13,8 @@ pub returns-in_err-rest : goal.returns-in_err-rest
 returns-in_err-rest g c =
     let told = c.ask.ensures in
     let row = c.args.row.now in
-    let old = state g.S.Store c.args.conn.now in
-    let new = state g.S.Store c.ask.new.conn in
+    let old = g.D.Queryable.shown c.args.conn.now in
+    let new = g.D.Queryable.shown c.ask.new.conn in
     let first =
     posting_takes old new row c.ask.result
     (rw (c.to_cell.ensures, c.to_cell-2.ensures, c.to_cell-3.ensures) at told.shown) told.same
@@ -24,20 +23,21 @@ returns-in_err-rest g c =
     let pages =
     level_fails leg_cells (λ b. b.leg) page_rows (omega arith) 1 (leg_cells row) mounts_1 old new
     c.in_err-rest.field-0.0 (rw (c.in_err-rest.was) at first) in
-    record { pages = search rules }
+    record { same_reference = search rules; pages = search rules }
 
 pub returns-then-not-is_empty : goal.returns-then-not-is_empty
 returns-then-not-is_empty g c =
     let told = c.ask.ensures in
     let row = c.args.row.now in
-    let old = state g.S.Store c.args.conn.now in
-    let new = state g.S.Store c.ask.new.conn in
+    let old = g.D.Queryable.shown c.args.conn.now in
+    let new = g.D.Queryable.shown c.ask.new.conn in
     let first =
     posting_takes old new row c.ask.result
     (rw (c.to_cell.ensures, c.to_cell-2.ensures, c.to_cell-3.ensures) at told.shown) told.same
     (rw (c.to_cell.ensures, c.to_cell-2.ensures, c.to_cell-3.ensures) at told.refused) told.device
     told.err told.crash in
     record {
+      same_reference = search rules;
       pages = level_pages leg_cells (λ b. b.leg) page_rows (omega arith) 1 (leg_cells row) mounts_1
           old new c.in_ok-rest.rest (search rules) (rw (c.in_ok-rest.was) at first);
     }
@@ -46,18 +46,19 @@ pub returns : goal.returns
 returns g c =
     let told = c.ask.ensures in
     let row = c.args.row.now in
-    let old = state g.S.Store c.args.conn.now in
-    let mid = state g.S.Store c.ask.new.conn in
+    let old = g.D.Queryable.shown c.args.conn.now in
+    let mid = g.D.Queryable.shown c.ask.new.conn in
     let first =
     posting_takes old mid row c.ask.result
     (rw (c.to_cell.ensures, c.to_cell-2.ensures, c.to_cell-3.ensures) at told.shown) told.same
     (rw (c.to_cell.ensures, c.to_cell-2.ensures, c.to_cell-3.ensures) at told.refused) told.device
     told.err told.crash in
-    let new = state g.S.Store c.legs_from.new.conn in
+    let new = g.D.Queryable.shown c.legs_from.new.conn in
     let later =
     past_first row mid new c.legs_from.result
     (c.legs_from.ensures.pages (pos row.entry +ℤ pos 1) c.number_behind.ensures) in
     record {
+      same_reference = search rules;
       pages = later_pages leg_cells (λ b. b.leg) page_rows (omega arith) 1 (leg_cells row) mounts_1
           old mid c.in_ok-rest.rest (nil_from_length c.in_ok-rest.rest.items (search rules))
           (rw (c.in_ok-rest.was) at first) new c.legs_from.result later;

@@ -1,5 +1,4 @@
-use Rattle.std.proofs.Common.{arith}
-use Rattle.sqlite.specs.Held.{state}
+use Rattle.std.proofs.Common.{arith, rules}
 use Rattle.sqlite.specs.declared.types.Value.TheVariants.{Int}
 use Rattle.lot_page.specs.Page.{is_from, page_rows}
 use Rattle.lot_page.proofs.LegLemmas.{asks_from, from_takes}
@@ -13,9 +12,10 @@ ask-requires g c = asks_from.selects
 pub returns : goal.returns
 returns g c =
     let told = c.ask.ensures in
-    let old = state g.S.Store c.args.conn.now in
-    let new = state g.S.Store c.ask.new.conn in
+    let old = g.D.Queryable.shown c.args.conn.now in
+    let new = g.D.Queryable.shown c.ask.new.conn in
     record {
+      same_reference = search rules;
       pages = λ n is.
           let first =
           from_takes old new n c.ask.result (rw (c.to_cell.ensures, is) at told.shown) told.same

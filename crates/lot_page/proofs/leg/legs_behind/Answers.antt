@@ -1,17 +1,16 @@
 use Rattle.std.proofs.Common.{arith, refl, rules}
 use Rattle.std.proofs.lemmas.List.{nil_from_length}
-use Rattle.sqlite.specs.Held.{state}
 use Rattle.lot_page.specs.Page.{page_rows}
 use Rattle.lot_page.proofs.LegLemmas.{all_legs, asks_place, mounts_2, place_takes}
 use Rattle.lot_page.proofs.NextLemmas.{least}
 use Rattle.lot_page.proofs.WalkLemmas.{later_pages, level_fails, level_pages}
 use Rattle.lot_rows.specs.Leg.{leg_cells}
-use Rattle.lot_migrate.proofs.pages.legs_behind.Goals as goal
+use Rattle.lot_page.proofs.leg.legs_behind.Goals as goal
 
 pub returns-in_default : goal.returns-in_default
 returns-in_default g c =
-    let old = state g.S.Store c.args.tx.now.conn.now in
-    let new = state g.S.Store c.legs_from.new.tx.conn.now in
+    let old = g.D.Queryable.shown c.args.conn.now in
+    let new = g.D.Queryable.shown c.legs_from.new.conn in
     record {
       same_reference = search rules;
       pages = rw (c.in_default.is)
@@ -25,8 +24,8 @@ pub returns-in_err-rest : goal.returns-in_err-rest
 returns-in_err-rest g c =
     let told = c.ask.ensures in
     let row = c.in-Some.row in
-    let old = state g.S.Store c.args.tx.now.conn.now in
-    let new = state g.S.Store c.ask.new.conn.conn.now in
+    let old = g.D.Queryable.shown c.args.conn.now in
+    let new = g.D.Queryable.shown c.ask.new.conn in
     let first =
     place_takes old new row c.ask.result
     (rw (c.to_cell.ensures, c.to_cell-2.ensures, c.to_cell-3.ensures, c.to_cell-4.ensures)
@@ -42,8 +41,8 @@ pub returns-then-not-is_empty : goal.returns-then-not-is_empty
 returns-then-not-is_empty g c =
     let told = c.ask.ensures in
     let row = c.in-Some.row in
-    let old = state g.S.Store c.args.tx.now.conn.now in
-    let new = state g.S.Store c.ask.new.conn.conn.now in
+    let old = g.D.Queryable.shown c.args.conn.now in
+    let new = g.D.Queryable.shown c.ask.new.conn in
     let first =
     place_takes old new row c.ask.result
     (rw (c.to_cell.ensures, c.to_cell-2.ensures, c.to_cell-3.ensures, c.to_cell-4.ensures)
@@ -61,15 +60,15 @@ pub returns : goal.returns
 returns g c =
     let told = c.ask.ensures in
     let row = c.in-Some.row in
-    let old = state g.S.Store c.args.tx.now.conn.now in
-    let mid = state g.S.Store c.ask.new.conn.conn.now in
+    let old = g.D.Queryable.shown c.args.conn.now in
+    let mid = g.D.Queryable.shown c.ask.new.conn in
     let first =
     place_takes old mid row c.ask.result
     (rw (c.to_cell.ensures, c.to_cell-2.ensures, c.to_cell-3.ensures, c.to_cell-4.ensures)
     at told.shown) told.same
     (rw (c.to_cell.ensures, c.to_cell-2.ensures, c.to_cell-3.ensures, c.to_cell-4.ensures)
     at told.refused) told.device told.err told.crash in
-    let new = state g.S.Store c.behind_posting.new.tx.conn.now in
+    let new = g.D.Queryable.shown c.behind_posting.new.conn in
     let later = c.behind_posting.ensures.pages in
     record {
       same_reference = search rules;
