@@ -1,28 +1,19 @@
 -- The statements that answer some rows of a table, and the one of the table `migration`.
 use Rattle.std.proofs.Common.{Result, Vec, IfSome, slice_get, true, ◌≡◌, ℕ, ℤ, pos, None, All, List, [], ◌∷◌, codes, refl, arith, Option, Some}
 use Rattle.std.specs.declared.alloc.Global.{Global}
-use Rattle.sqlite.specs.Collation.TheVariants.{Binary}
 use Rattle.sqlite.specs.Listing.{understood}
 use Rattle.sqlite.specs.State.{State}
-use Rattle.sqlite.specs.Term.{Term, col}
 use Rattle.sqlite.specs.declared.types.Value.TheVariants.{Int, Text}
-use Rattle.sqlite_rules.proofs.ListLemmas.{has_got}
 use Rattle.sqlite_rules.specs.Steps.{is_typed}
 use Rattle.sqlite_tied.specs.Compute.{everything}
-use Rattle.sqlite_value.specs.Keys.{ascending}
-use Rattle.sqlite_value.specs.declared.keys.Key.{Key}
 use Rattle.lot_cost.specs.declared.lot_key.LotKey.{LotKey}
-use Rattle.lot_table.proofs.CastLemmas.{cast_maybe_int, cast_maybe_text}
 use Rattle.lot_table.proofs.QueryLemmas.{Asks, IsQuery, finds, keyed, lists_columns}
 use Rattle.lot_table.proofs.ReadLemmas.{key_terms}
-use Rattle.lot_table.proofs.ShapeLemmas.{free}
-use Rattle.lot_table.proofs.StatementLemmas.{IsTable}
-use Rattle.lot_table.proofs.WriteLemmas.{cast_int}
 use Rattle.lot_table.specs.Call.{Finds, ListsColumns, Selects}
-use Rattle.lot_table.specs.Cell.{label_text}
 use Rattle.lot_table.specs.Rows.{has_key, with_key}
 use Rattle.lot_table.specs.declared.fault.Fault.{Fault}
-use Rattle.lot_rows.specs.Tables.{layout, leg_table, lot_table, opening_table, price_table, shapes}
+use Rattle.lot_rows.proofs.LegLemmas.{is_table as leg_is, names as leg_names, order as leg_order, shows as leg_shows}
+use Rattle.lot_rows.specs.Tables.{layout, leg_table, lot_table, opening_table, price_table}
 use Rattle.lot_rows.proofs.PriceLemmas.{same_row as same_price}
 use Rattle.lot_rows.specs.Leg.{IsLegRow, leg_cells}
 use Rattle.lot_rows.specs.Lot.{IsLotRow, lot_cells}
@@ -34,7 +25,9 @@ use Rattle.lot_rows.specs.declared.price.PriceRow.{PriceRow}
 use Rattle.sqlite.specs.Order.{Row}
 use Rattle.lot_rows.specs.Opening.{IsOpeningRow, opening_cells}
 use Rattle.lot_rows.specs.declared.opening.OpeningRow.{OpeningRow}
-use Rattle.lot_audit.proofs.WholeLemmas.{lot_is, lot_names, lot_order, lot_shows, opening_is, opening_names, opening_order, opening_shows, price_is, price_names, price_order, price_shows}
+use Rattle.lot_rows.proofs.LotLemmas.{is_table as lot_is, names as lot_names, order as lot_order, shows as lot_shows}
+use Rattle.lot_rows.proofs.OpeningLemmas.{is_table as opening_is, names as opening_names, order as opening_order, shows as opening_shows}
+use Rattle.lot_rows.proofs.PriceLemmas.{is_table as price_is, names as price_names, order as price_order, shows as price_shows}
 
 -- ---- price: one pair on one day
 
@@ -68,61 +61,6 @@ price_row old new base quote day =
     (λ _. refl) same_price
 
 -- ---- leg
-
--- the columns of a leg
-typed_leg : (entry posting place : ℤ) (account commodity : List ℕ) (units : ℤ) (lot : Option LotKey) (id : ℤ)
-    → is_typed leg_table.table (Int id ∷ Int entry ∷ Int posting ∷ Int place ∷ Text account ∷ Text commodity ∷ Int units
-    ∷ cost_number lot ∷ cost_currency lot ∷ cost_day lot ∷ cost_label lot ∷ []) ≡ true
-typed_leg entry posting place account commodity units None id = refl
-typed_leg entry posting place account commodity units (Some lot) id = refl
-
-abbrev leg_is : IsTable layout leg_table
-leg_is = record {
-  aligned = λ _. refl;
-  held = λ _ _ h. h.1.1.1.1.1.1.0;
-  is_set = λ _ _. refl;
-  present = λ _. (refl, (refl, (refl, tt)));
-  place = 6;
-  placed = refl;
-  free = free shapes leg_table.table (has_got layout.schema.tables 6 leg_table.table refl) refl;
-  uncounted = refl;
-  mends = λ _. refl;
-  stored = λ x. (
-    cast_int (pos x.entry),
-    (
-      cast_int (pos x.posting),
-      (
-        cast_int (pos x.place),
-        (
-          refl,
-          (
-            refl,
-            (
-              cast_int x.units,
-              (
-                cast_maybe_int (λ (lot : LotKey). pos lot.number) x.lot,
-                (
-                  cast_maybe_text (λ (lot : LotKey). lot.currency) x.lot,
-                  (cast_maybe_int (λ (lot : LotKey). lot.day) x.lot, (cast_maybe_text (λ (lot : LotKey). label_text lot.label) x.lot, tt)),
-                ),
-              ),
-            ),
-          ),
-        ),
-      ),
-    ),
-  );
-  judged = λ x id. (refl, typed_leg (pos x.entry) (pos x.posting) (pos x.place) x.account x.commodity x.units x.lot id, refl, refl);
-}
-
-abbrev leg_shows : List Term
-leg_shows = col 1 1 ∷ col 1 2 ∷ col 1 3 ∷ col 1 4 ∷ col 1 5 ∷ col 1 6 ∷ col 1 7 ∷ col 1 8 ∷ col 1 9 ∷ col 1 10 ∷ []
-
-abbrev leg_order : List (Term × Key)
-leg_order = (col 1 1, ascending Binary) ∷ (col 1 2, ascending Binary) ∷ (col 1 3, ascending Binary) ∷ []
-
-abbrev leg_names : List (List ℕ)
-leg_names = codes "entry" ∷ codes "posting" ∷ codes "place" ∷ codes "account" ∷ codes "commodity" ∷ codes "units" ∷ codes "cost_number" ∷ codes "cost_currency" ∷ codes "cost_day" ∷ codes "cost_label" ∷ []
 
 abbrev leg_text : List ℕ
 leg_text = codes "SELECT entry, posting, place, account, commodity, units, cost_number, cost_currency, cost_day, cost_label FROM leg WHERE entry = ?1 ORDER BY entry, posting, place"

@@ -1,30 +1,19 @@
 -- The statements that answer all rows of a table.
 use Rattle.std.specs.declared.alloc.Global.{Global}
-use Rattle.std.proofs.Common.{Result, Vec, subst, true, ◌≡◌, ℕ, ℤ, pos, None, All, List, [], ◌∷◌, codes, refl, arith, Option, Some}
-use Rattle.sqlite.specs.Collation.TheVariants.{Binary}
+use Rattle.std.proofs.Common.{Result, Vec, subst, ◌≡◌, ℕ, All, List, [], ◌∷◌, codes, refl, arith}
 use Rattle.sqlite.specs.Listing.{understood}
 use Rattle.sqlite.specs.Order.{Row}
 use Rattle.sqlite.specs.State.{State}
-use Rattle.sqlite.specs.Term.{Term, col}
-use Rattle.sqlite.specs.Values.{or_null}
-use Rattle.sqlite.specs.declared.types.Value.TheVariants.{Int, Text}
-use Rattle.sqlite_rules.proofs.ListLemmas.{has_got}
-use Rattle.sqlite_rules.specs.Steps.{is_typed}
+use Rattle.sqlite.specs.Term.{Term}
 use Rattle.sqlite_tied.specs.Compute.{everything}
-use Rattle.sqlite_value.specs.Keys.{ascending}
 use Rattle.sqlite_value.specs.declared.keys.Key.{Key}
-use Rattle.lot_cost.specs.Method.{word_of}
-use Rattle.lot_cost.specs.declared.method.Method.{Method}
-use Rattle.lot_table.proofs.CastLemmas.{cast_maybe_int}
 use Rattle.lot_table.proofs.QueryLemmas.{IsQuery, Picks, every_one, lists_columns}
 use Rattle.lot_table.proofs.ReadLemmas.{key_terms}
-use Rattle.lot_table.proofs.ShapeLemmas.{free}
 use Rattle.lot_table.proofs.StatementLemmas.{IsTable}
-use Rattle.lot_table.proofs.WriteLemmas.{cast_int}
 use Rattle.lot_table.specs.Call.{ListsColumns, Selects}
 use Rattle.lot_table.specs.declared.fault.Fault.{Fault}
 use Rattle.lot_table.specs.Rows.{has_key}
-use Rattle.lot_rows.specs.Tables.{Tables, account_table, allowed_table, commodity_table, head_table, layout, lot_table, opening_table, plain_table, price_table, shapes}
+use Rattle.lot_rows.specs.Tables.{Tables, account_table, allowed_table, commodity_table, head_table, layout, lot_table, opening_table, plain_table, price_table}
 use Rattle.lot_rows.specs.Lot.{IsLotRow, lot_cells}
 use Rattle.lot_rows.specs.Price.{IsPriceRow, price_cells}
 use Rattle.lot_rows.specs.Account.{IsAccountRow, account_cells}
@@ -33,7 +22,14 @@ use Rattle.lot_rows.specs.Commodity.{IsCommodityRow, commodity_cells}
 use Rattle.lot_rows.specs.Head.{IsHeadRow, head_cells}
 use Rattle.lot_rows.specs.Opening.{IsOpeningRow, opening_cells}
 use Rattle.lot_rows.specs.Plain.{IsPlainRow, plain_cells}
-use Rattle.lot_rows.proofs.PlainLemmas.{list_is}
+use Rattle.lot_rows.proofs.AccountLemmas.{is_table as account_is, names as account_names, order as account_order, shows as account_shows}
+use Rattle.lot_rows.proofs.AllowedLemmas.{is_table as allowed_is, names as allowed_names, order as allowed_order, shows as allowed_shows}
+use Rattle.lot_rows.proofs.CommodityLemmas.{is_table as commodity_is, names as commodity_names, order as commodity_order, shows as commodity_shows}
+use Rattle.lot_rows.proofs.HeadLemmas.{is_table as head_is, names as head_names, order as head_order, shows as head_shows}
+use Rattle.lot_rows.proofs.OpeningLemmas.{is_table as opening_is, names as opening_names, order as opening_order, shows as opening_shows}
+use Rattle.lot_rows.proofs.LotLemmas.{is_table as lot_is, names as lot_names, order as lot_order, shows as lot_shows}
+use Rattle.lot_rows.proofs.PriceLemmas.{is_table as price_is, names as price_names, order as price_order, shows as price_shows}
+use Rattle.lot_rows.proofs.PlainLemmas.{is_table as plain_is, list_is}
 use Rattle.lot_stored.specs.StandFor.{AreOfBook}
 use Rattle.lot_table.specs.Book.{BookTable}
 use Rattle.lot_audit.specs.Whole.{AsksForAll}
@@ -71,36 +67,6 @@ lists_all {X} encode IsGood rows text all old new result =
 
 -- ---- account
 
--- the columns of an account
-typed_account : (name : List ℕ) (opened : ℤ) (closed : Option ℤ) (method : Method) (id : ℤ)
-    → is_typed account_table.table (Int id ∷ Text name ∷ Int opened ∷ or_null Int closed ∷ Text (word_of method) ∷ []) ≡ true
-typed_account name opened None method id = refl
-typed_account name opened (Some day) method id = refl
-
-abbrev account_is : IsTable layout account_table
-account_is = record {
-  aligned = λ _. refl;
-  held = λ _ _ h. h.1.0;
-  is_set = λ _ _. refl;
-  present = λ _. (refl, tt);
-  place = 1;
-  placed = refl;
-  free = free shapes account_table.table (has_got layout.schema.tables 1 account_table.table refl) refl;
-  uncounted = refl;
-  mends = λ _. refl;
-  stored = λ x. (refl, (cast_int x.opened, (cast_maybe_int (λ day. day) x.closed, (refl, tt))));
-  judged = λ x id. (refl, typed_account x.name x.opened x.closed x.method id, refl, refl);
-}
-
-abbrev account_shows : List Term
-account_shows = col 1 1 ∷ col 1 2 ∷ col 1 3 ∷ col 1 4 ∷ []
-
-abbrev account_order : List (Term × Key)
-account_order = (col 1 1, ascending Binary) ∷ []
-
-abbrev account_names : List (List ℕ)
-account_names = codes "name" ∷ codes "opened" ∷ codes "closed" ∷ codes "method" ∷ []
-
 abbrev account_text : List ℕ
 account_text = codes "SELECT name, opened, closed, method FROM account ORDER BY name"
 
@@ -115,30 +81,6 @@ account_all =
     IsAccountRow one_account (λ tables of. of.2.good.account)
 
 -- ---- allowed
-
-abbrev allowed_is : IsTable layout allowed_table
-allowed_is = record {
-  aligned = λ _. refl;
-  held = λ _ _ h. h.1.1.0;
-  is_set = λ _ _. refl;
-  present = λ _. (refl, (refl, tt));
-  place = 2;
-  placed = refl;
-  free = free shapes allowed_table.table (has_got layout.schema.tables 2 allowed_table.table refl) refl;
-  uncounted = refl;
-  mends = λ _. refl;
-  stored = λ x. (refl, (cast_int (pos x.place), (refl, tt)));
-  judged = λ _ _. (refl, refl, refl, refl);
-}
-
-abbrev allowed_shows : List Term
-allowed_shows = col 1 1 ∷ col 1 2 ∷ col 1 3 ∷ []
-
-abbrev allowed_order : List (Term × Key)
-allowed_order = (col 1 1, ascending Binary) ∷ (col 1 2, ascending Binary) ∷ []
-
-abbrev allowed_names : List (List ℕ)
-allowed_names = codes "account" ∷ codes "place" ∷ codes "commodity" ∷ []
 
 abbrev allowed_text : List ℕ
 allowed_text = codes "SELECT account, place, commodity FROM allowed ORDER BY account, place"
@@ -155,30 +97,6 @@ allowed_all =
 
 -- ---- commodity
 
-abbrev commodity_is : IsTable layout commodity_table
-commodity_is = record {
-  aligned = λ _. refl;
-  held = λ _ _ h. h.1.1.1.0;
-  is_set = λ _ _. refl;
-  present = λ _. (refl, tt);
-  place = 3;
-  placed = refl;
-  free = free shapes commodity_table.table (has_got layout.schema.tables 3 commodity_table.table refl) refl;
-  uncounted = refl;
-  mends = λ _. refl;
-  stored = λ x. (refl, (cast_int x.day, tt));
-  judged = λ _ _. (refl, refl, refl, refl);
-}
-
-abbrev commodity_shows : List Term
-commodity_shows = col 1 1 ∷ col 1 2 ∷ []
-
-abbrev commodity_order : List (Term × Key)
-commodity_order = (col 1 1, ascending Binary) ∷ []
-
-abbrev commodity_names : List (List ℕ)
-commodity_names = codes "name" ∷ codes "day" ∷ []
-
 abbrev commodity_text : List ℕ
 commodity_text = codes "SELECT name, day FROM commodity ORDER BY name"
 
@@ -193,30 +111,6 @@ commodity_all =
     IsCommodityRow one_commodity (λ tables of. of.2.good.commodity)
 
 -- ---- head
-
-abbrev head_is : IsTable layout head_table
-head_is = record {
-  aligned = λ _. refl;
-  held = λ _ _ h. h.1.1.1.1.1.1.1.1.1.1.0;
-  is_set = λ _ _. refl;
-  present = λ _. (refl, (refl, tt));
-  place = 10;
-  placed = refl;
-  free = free shapes head_table.table (has_got layout.schema.tables 10 head_table.table refl) refl;
-  uncounted = refl;
-  mends = λ _. refl;
-  stored = λ x. (refl, (refl, (cast_int x.day, tt)));
-  judged = λ _ _. (refl, refl, refl, refl);
-}
-
-abbrev head_shows : List Term
-head_shows = col 1 1 ∷ col 1 2 ∷ col 1 3 ∷ []
-
-abbrev head_order : List (Term × Key)
-head_order = (col 1 1, ascending Binary) ∷ (col 1 2, ascending Binary) ∷ []
-
-abbrev head_names : List (List ℕ)
-head_names = codes "account" ∷ codes "commodity" ∷ codes "day" ∷ []
 
 abbrev head_text : List ℕ
 head_text = codes "SELECT account, commodity, day FROM head ORDER BY account, commodity"
@@ -233,30 +127,6 @@ head_all =
 
 -- ---- opening
 
-abbrev pub opening_is : IsTable layout opening_table
-opening_is = record {
-  aligned = λ _. refl;
-  held = λ _ _ h. h.1.1.1.1.1.1.1.1.1.1.1.0;
-  is_set = λ _ _. refl;
-  present = λ _. (refl, (refl, (refl, (refl, (refl, (refl, tt))))));
-  place = 11;
-  placed = refl;
-  free = free shapes opening_table.table (has_got layout.schema.tables 11 opening_table.table refl) refl;
-  uncounted = refl;
-  mends = λ _. refl;
-  stored = λ x. (refl, (refl, (cast_int x.lot.day, (refl, (cast_int (pos x.lot.number), (refl, (cast_int (pos x.opening), tt)))))));
-  judged = λ _ _. (refl, refl, refl, refl);
-}
-
-abbrev pub opening_shows : List Term
-opening_shows = col 1 1 ∷ col 1 2 ∷ col 1 3 ∷ col 1 4 ∷ col 1 5 ∷ col 1 6 ∷ col 1 7 ∷ []
-
-abbrev pub opening_order : List (Term × Key)
-opening_order = (col 1 1, ascending Binary) ∷ (col 1 2, ascending Binary) ∷ (col 1 3, ascending Binary) ∷ (col 1 4, ascending Binary) ∷ (col 1 5, ascending Binary) ∷ (col 1 6, ascending Binary) ∷ []
-
-abbrev pub opening_names : List (List ℕ)
-opening_names = codes "account" ∷ codes "commodity" ∷ codes "cost_day" ∷ codes "cost_currency" ∷ codes "cost_number" ∷ codes "cost_label" ∷ codes "opening" ∷ []
-
 abbrev opening_text : List ℕ
 opening_text = codes "SELECT account, commodity, cost_day, cost_currency, cost_number, cost_label, opening FROM opening ORDER BY account, commodity, cost_day, cost_currency, cost_number, cost_label"
 
@@ -271,30 +141,6 @@ opening_all =
     IsOpeningRow one_opening (λ tables of. of.2.good.opening)
 
 -- ---- lot
-
-abbrev pub lot_is : IsTable layout lot_table
-lot_is = record {
-  aligned = λ _. refl;
-  held = λ _ _ h. h.1.1.1.1.1.1.1.1.0;
-  is_set = λ _ _. refl;
-  present = λ _. (refl, (refl, (refl, (refl, (refl, (refl, tt))))));
-  place = 8;
-  placed = refl;
-  free = free shapes lot_table.table (has_got layout.schema.tables 8 lot_table.table refl) refl;
-  uncounted = refl;
-  mends = λ _. refl;
-  stored = λ x. (refl, (refl, (cast_int x.lot.day, (refl, (cast_int (pos x.lot.number), (refl, (cast_int x.units, tt)))))));
-  judged = λ _ _. (refl, refl, refl, refl);
-}
-
-abbrev pub lot_shows : List Term
-lot_shows = opening_shows
-
-abbrev pub lot_order : List (Term × Key)
-lot_order = opening_order
-
-abbrev pub lot_names : List (List ℕ)
-lot_names = codes "account" ∷ codes "commodity" ∷ codes "cost_day" ∷ codes "cost_currency" ∷ codes "cost_number" ∷ codes "cost_label" ∷ codes "units" ∷ []
 
 abbrev lot_text : List ℕ
 lot_text = codes "SELECT account, commodity, cost_day, cost_currency, cost_number, cost_label, units FROM lot ORDER BY account, commodity, cost_day, cost_currency, cost_number, cost_label"
@@ -311,30 +157,6 @@ lot_all =
 
 -- ---- price
 
-abbrev pub price_is : IsTable layout price_table
-price_is = record {
-  aligned = λ _. refl;
-  held = λ _ _ h. h.1.1.1.1.0;
-  is_set = λ _ _. refl;
-  present = λ _. (refl, (refl, (refl, tt)));
-  place = 4;
-  placed = refl;
-  free = free shapes price_table.table (has_got layout.schema.tables 4 price_table.table refl) refl;
-  uncounted = refl;
-  mends = λ _. refl;
-  stored = λ x. (refl, (refl, (cast_int x.day, (cast_int (pos x.rate), tt))));
-  judged = λ _ _. (refl, refl, refl, refl);
-}
-
-abbrev pub price_shows : List Term
-price_shows = col 1 1 ∷ col 1 2 ∷ col 1 3 ∷ col 1 4 ∷ []
-
-abbrev pub price_order : List (Term × Key)
-price_order = (col 1 1, ascending Binary) ∷ (col 1 2, ascending Binary) ∷ (col 1 3, ascending Binary) ∷ []
-
-abbrev pub price_names : List (List ℕ)
-price_names = codes "base" ∷ codes "quote" ∷ codes "day" ∷ codes "rate" ∷ []
-
 abbrev prices_text : List ℕ
 prices_text = codes "SELECT base, quote, day, rate FROM price ORDER BY base, quote, day"
 
@@ -349,21 +171,6 @@ price_all =
     IsPriceRow one_price (λ tables of. of.2.good.price)
 
 -- ---- plain
-
-abbrev plain_is : IsTable layout plain_table
-plain_is = record {
-  aligned = λ _. refl;
-  held = λ _ _ h. h.1.1.1.1.1.1.1.1.1.0;
-  is_set = λ _ _. refl;
-  present = λ _. (refl, (refl, tt));
-  place = 9;
-  placed = refl;
-  free = free shapes plain_table.table (has_got layout.schema.tables 9 plain_table.table refl) refl;
-  uncounted = refl;
-  mends = λ _. refl;
-  stored = λ x. (refl, (refl, (cast_int x.units, tt)));
-  judged = λ _ _. (refl, refl, refl, refl);
-}
 
 abbrev plain_text : List ℕ
 plain_text = codes "SELECT account, commodity, units FROM plain ORDER BY account, commodity"

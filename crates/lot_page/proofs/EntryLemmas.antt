@@ -1,34 +1,22 @@
 -- The pages of the table `entry`.
 use Rattle.std.proofs.Common.{ℕ, not, None, Result, Vec, filter, ℤ, ◌+ℤ◌, pos, List, [], ◌∷◌, codes, refl, ap, ◌∙◌, arith}
 use Rattle.std.specs.declared.alloc.Global.{Global}
-use Rattle.sqlite.specs.Collation.TheVariants.{Binary}
 use Rattle.sqlite.specs.Listing.{understood}
 use Rattle.sqlite.specs.Order.{Row}
 use Rattle.sqlite.specs.State.{State}
-use Rattle.sqlite.specs.Term.{Term, col}
 use Rattle.sqlite.specs.declared.types.Value.TheVariants.{Int}
 use Rattle.sqlite_sql.specs.declared.ops.CompareOp.TheVariants.{Ge}
 use Rattle.sqlite_tied.specs.Compute.{everything}
-use Rattle.sqlite_value.specs.Keys.{ascending}
-use Rattle.sqlite_value.specs.declared.keys.Key.{Key}
 use Rattle.lot_page.specs.Page.{Pages, PagesOf, entry_page_rows, is_from, is_past}
 use Rattle.lot_page.proofs.LevelLemmas.{first_column, terms, terms_reach}
 use Rattle.lot_page.proofs.NextLemmas.{least, not_below_least, past_number}
 use Rattle.lot_page.proofs.PageLemmas.{Asks}
 use Rattle.lot_page.proofs.WalkLemmas.{from_all, from_past, pages_so}
+use Rattle.lot_rows.proofs.EntryLemmas.{names, order, shows}
 use Rattle.lot_rows.specs.Entry.{entry_cells}
 use Rattle.lot_rows.specs.Tables.{entry_table}
 use Rattle.lot_rows.specs.declared.entry.EntryRow.{EntryRow}
 use Rattle.lot_table.specs.declared.fault.Fault.{Fault}
-
-abbrev pub shows : List Term
-shows = col 1 1 ∷ col 1 2 ∷ col 1 3 ∷ col 1 4 ∷ []
-
-abbrev pub order : List (Term × Key)
-order = (col 1 1, ascending Binary) ∷ []
-
-abbrev pub names : List (List ℕ)
-names = codes "number" ∷ codes "source" ∷ codes "name" ∷ codes "body" ∷ []
 
 -- ---- from a number on
 

@@ -2,12 +2,11 @@
 use Rattle.std.proofs.Common.{inl, inr, ◌⊎◌, ◌≡◌, ◌≤◌, ℕ, zero, suc, Bool, false, true, not, None, Result, Vec, filter, length, map, ◌+ℤ◌, pos, List, [], ◌∷◌, ◌++◌, ◌&&◌, codes, refl, ap, ◌∙◌, arith, is_eq}
 use Rattle.std.specs.List.{list_all}
 use Rattle.std.specs.declared.alloc.Global.{Global}
-use Rattle.sqlite.specs.Collation.TheVariants.{Binary}
 use Rattle.sqlite.specs.Command.TheVariants.{Select}
 use Rattle.sqlite.specs.Listing.{reads_listing, understood}
 use Rattle.sqlite.specs.Order.{Row}
 use Rattle.sqlite.specs.State.{State}
-use Rattle.sqlite.specs.Term.{Term, col, holds}
+use Rattle.sqlite.specs.Term.{Term, holds}
 use Rattle.sqlite.specs.Tree.{Trees}
 use Rattle.sqlite.specs.declared.types.Value.TheVariants.{Int, Text}
 use Rattle.sqlite.specs.declared.types.Value.{Value}
@@ -15,15 +14,15 @@ use Rattle.sqlite.proofs.Callers.{IsPlain, command_of}
 use Rattle.sqlite_typing.specs.Types.{accepts_program}
 use Rattle.sqlite_sql.specs.declared.ops.CompareOp.TheVariants.{Ge, Gt}
 use Rattle.sqlite_tied.specs.Compute.{everything}
-use Rattle.sqlite_value.specs.Keys.{ascending, rising}
+use Rattle.sqlite_value.specs.Keys.{rising}
 use Rattle.sqlite_value.specs.Order.{value_cmp}
-use Rattle.sqlite_value.specs.declared.keys.Key.{Key}
 use Rattle.lot_page.specs.Page.{Pages, PagesOf, page_rows, is_from, level}
 use Rattle.lot_page.specs.Rise.{lots_rise}
 use Rattle.lot_page.proofs.LevelLemmas.{Mounts, mounts, terms, terms_level, terms_reach}
 use Rattle.lot_page.proofs.NextLemmas.{not_shorter, past_number, past_text}
 use Rattle.lot_page.proofs.PageLemmas.{Asks, TakesBy, answers, asking, paged}
 use Rattle.lot_page.proofs.WalkLemmas.{from_all, pages_so}
+use Rattle.lot_rows.proofs.LotLemmas.{names, order, shows}
 use Rattle.lot_rows.specs.Lot.{lot_cells}
 use Rattle.lot_rows.specs.Tables.{Tables, layout, lot_table}
 use Rattle.lot_rows.specs.declared.lot.LotRow.{LotRow}
@@ -32,15 +31,6 @@ use Rattle.lot_table.specs.Statement.{IsSelect}
 use Rattle.lot_table.proofs.RefusalLemmas.{IsWhole}
 use Rattle.lot_table.specs.declared.fault.Fault.{Fault}
 use Rattle.lot_table.specs.Cell.{label_text}
-
-abbrev pub shows : List Term
-shows = col 1 1 ∷ col 1 2 ∷ col 1 3 ∷ col 1 4 ∷ col 1 5 ∷ col 1 6 ∷ col 1 7 ∷ []
-
-abbrev pub order : List (Term × Key)
-order = (col 1 1, ascending Binary) ∷ (col 1 2, ascending Binary) ∷ (col 1 3, ascending Binary) ∷ (col 1 4, ascending Binary) ∷ (col 1 5, ascending Binary) ∷ (col 1 6, ascending Binary) ∷ []
-
-abbrev pub names : List (List ℕ)
-names = codes "account" ∷ codes "commodity" ∷ codes "cost_day" ∷ codes "cost_currency" ∷ codes "cost_number" ∷ codes "cost_label" ∷ codes "units" ∷ []
 
 -- a text that asks for lots in the order of their key
 asks : {K : Type 0} (key : K → Row) (passes : K → Row → Bool) (tests : List Term) (text : List ℕ)

@@ -1,38 +1,27 @@
 -- The pages of the table `price`.
 use Rattle.std.proofs.Common.{ℕ, not, None, Result, Vec, filter, map, pos, List, [], ◌∷◌, ◌++◌, ◌&&◌, codes, refl, ap, ◌∙◌, arith, is_eq}
 use Rattle.std.specs.declared.alloc.Global.{Global}
-use Rattle.sqlite.specs.Collation.TheVariants.{Binary}
 use Rattle.sqlite.specs.Listing.{understood}
 use Rattle.sqlite.specs.Order.{Row}
 use Rattle.sqlite.specs.State.{State}
-use Rattle.sqlite.specs.Term.{Term, col}
 use Rattle.sqlite.specs.Tree.{Trees}
 use Rattle.sqlite.specs.declared.types.Value.TheVariants.{Int, Text}
 use Rattle.sqlite_sql.specs.declared.ops.CompareOp.TheVariants.{Ge, Gt}
 use Rattle.sqlite_tied.specs.Compute.{everything}
-use Rattle.sqlite_value.specs.Keys.{ascending, rising}
+use Rattle.sqlite_value.specs.Keys.{rising}
 use Rattle.sqlite_value.specs.Order.{value_cmp}
-use Rattle.sqlite_value.specs.declared.keys.Key.{Key}
 use Rattle.lot_page.specs.Page.{Pages, PagesOf, page_rows, is_from, is_past, level}
 use Rattle.lot_page.specs.Rise.{prices_rise}
 use Rattle.lot_page.proofs.LevelLemmas.{Mounts, first_column, mounts, terms, terms_level, terms_reach}
 use Rattle.lot_page.proofs.NextLemmas.{not_shorter, past_text}
 use Rattle.lot_page.proofs.PageLemmas.{Asks}
 use Rattle.lot_page.proofs.WalkLemmas.{from_all, from_past, pages_so}
+use Rattle.lot_rows.proofs.PriceLemmas.{names, order, shows}
 use Rattle.lot_rows.specs.Price.{price_cells}
 use Rattle.lot_rows.specs.Tables.{Tables, layout, price_table}
 use Rattle.lot_rows.specs.declared.price.PriceRow.{PriceRow}
 use Rattle.lot_table.specs.Book.{Holds}
 use Rattle.lot_table.specs.declared.fault.Fault.{Fault}
-
-abbrev pub shows : List Term
-shows = col 1 1 ∷ col 1 2 ∷ col 1 3 ∷ col 1 4 ∷ []
-
-abbrev pub order : List (Term × Key)
-order = (col 1 1, ascending Binary) ∷ (col 1 2, ascending Binary) ∷ (col 1 3, ascending Binary) ∷ []
-
-abbrev pub names : List (List ℕ)
-names = codes "base" ∷ codes "quote" ∷ codes "day" ∷ codes "rate" ∷ []
 
 -- ---- from a text on
 

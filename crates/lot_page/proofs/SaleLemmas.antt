@@ -1,37 +1,26 @@
 -- The pages of the table `sale`.
 use Rattle.std.proofs.Common.{ℕ, not, None, Result, Vec, filter, map, ℤ, ◌+ℤ◌, pos, List, [], ◌∷◌, codes, refl, ap, ◌∙◌, arith}
 use Rattle.std.specs.declared.alloc.Global.{Global}
-use Rattle.sqlite.specs.Collation.TheVariants.{Binary}
 use Rattle.sqlite.specs.Listing.{understood}
 use Rattle.sqlite.specs.Order.{Row}
 use Rattle.sqlite.specs.State.{State}
-use Rattle.sqlite.specs.Term.{Term, col}
 use Rattle.sqlite.specs.Tree.{Trees}
 use Rattle.sqlite.specs.declared.types.Value.TheVariants.{Int}
 use Rattle.sqlite_sql.specs.declared.ops.CompareOp.TheVariants.{Ge, Gt}
 use Rattle.sqlite_tied.specs.Compute.{everything}
-use Rattle.sqlite_value.specs.Keys.{ascending, rising}
-use Rattle.sqlite_value.specs.declared.keys.Key.{Key}
+use Rattle.sqlite_value.specs.Keys.{rising}
 use Rattle.lot_page.specs.Page.{Pages, PagesOf, page_rows, is_from, is_past, level}
 use Rattle.lot_page.specs.Rise.{sales_rise}
 use Rattle.lot_page.proofs.LevelLemmas.{Mounts, first_column, mounts, terms, terms_level, terms_reach}
 use Rattle.lot_page.proofs.NextLemmas.{not_negative, past_number}
 use Rattle.lot_page.proofs.PageLemmas.{Asks}
 use Rattle.lot_page.proofs.WalkLemmas.{from_all, from_past, pages_so}
+use Rattle.lot_rows.proofs.SaleLemmas.{names, order, shows}
 use Rattle.lot_rows.specs.Sale.{sale_cells}
 use Rattle.lot_rows.specs.Tables.{Tables, layout, sale_table}
 use Rattle.lot_rows.specs.declared.sale.SaleRow.{SaleRow}
 use Rattle.lot_table.specs.Book.{Holds}
 use Rattle.lot_table.specs.declared.fault.Fault.{Fault}
-
-abbrev pub shows : List Term
-shows = col 1 1 ∷ col 1 2 ∷ col 1 3 ∷ col 1 4 ∷ col 1 5 ∷ col 1 6 ∷ col 1 7 ∷ col 1 8 ∷ col 1 9 ∷ []
-
-abbrev pub order : List (Term × Key)
-order = (col 1 1, ascending Binary) ∷ (col 1 2, ascending Binary) ∷ []
-
-abbrev pub names : List (List ℕ)
-names = codes "entry" ∷ codes "posting" ∷ codes "day" ∷ codes "account" ∷ codes "commodity" ∷ codes "units" ∷ codes "kind" ∷ codes "amount" ∷ codes "currency" ∷ []
 
 -- ---- from a number on
 

@@ -66,11 +66,11 @@ abbrev put_terms : List Term
 put_terms = lit Null ∷ col 0 0 ∷ col 0 1 ∷ col 0 2 ∷ col 0 3 ∷ []
 
 -- each value is of its column, whichever is there
-typed : (name : List ℕ) (opened : ℤ) (closed : Option ℤ) (method : List ℕ) (id : ℤ) → (is_typed account_table.table (Int id ∷ Text name ∷ Int opened ∷ or_null Int closed ∷ Text method ∷ []) ≡ true) × (accepts_terms put_terms (Text name ∷ Int opened ∷ or_null Int closed ∷ Text method ∷ []) ≡ true)
+pub typed : (name : List ℕ) (opened : ℤ) (closed : Option ℤ) (method : List ℕ) (id : ℤ) → (is_typed account_table.table (Int id ∷ Text name ∷ Int opened ∷ or_null Int closed ∷ Text method ∷ []) ≡ true) × (accepts_terms put_terms (Text name ∷ Int opened ∷ or_null Int closed ∷ Text method ∷ []) ≡ true)
 typed name opened None method id = (refl, refl)
 typed name opened (Some day) method id = (refl, refl)
 
-abbrev is_table : IsTable layout account_table
+abbrev pub is_table : IsTable layout account_table
 is_table = record {
   aligned = λ _. refl;
   held = λ _ _ h. h.1.0;
@@ -94,13 +94,13 @@ puts_row old new x = puts layout account_table is_table old new put_text x (λ _
 
 -- ---- find
 
-abbrev shows : List Term
+abbrev pub shows : List Term
 shows = col 1 1 ∷ col 1 2 ∷ col 1 3 ∷ col 1 4 ∷ []
 
-abbrev order : List (Term × Key)
+abbrev pub order : List (Term × Key)
 order = (col 1 1, ascending Binary) ∷ []
 
-abbrev names : List (List ℕ)
+abbrev pub names : List (List ℕ)
 names = codes "name" ∷ codes "opened" ∷ codes "closed" ∷ codes "method" ∷ []
 
 abbrev find_text : List ℕ

@@ -35,7 +35,7 @@ put_text = codes "INSERT OR REPLACE INTO allowed (account, place, commodity) VAL
 abbrev put_terms : List Term
 put_terms = lit Null ∷ col 0 0 ∷ col 0 1 ∷ col 0 2 ∷ []
 
-abbrev is_table : IsTable layout allowed_table
+abbrev pub is_table : IsTable layout allowed_table
 is_table = record {
   aligned = λ _. refl;
   held = λ _ _ h. h.1.1.0;
@@ -59,13 +59,13 @@ puts_row old new x = puts layout allowed_table is_table old new put_text x (λ _
 
 -- ---- list_of
 
-abbrev shows : List Term
+abbrev pub shows : List Term
 shows = col 1 1 ∷ col 1 2 ∷ col 1 3 ∷ []
 
-abbrev order : List (Term × Key)
+abbrev pub order : List (Term × Key)
 order = (col 1 1, ascending Binary) ∷ (col 1 2, ascending Binary) ∷ []
 
-abbrev names : List (List ℕ)
+abbrev pub names : List (List ℕ)
 names = codes "account" ∷ codes "place" ∷ codes "commodity" ∷ []
 
 abbrev account_text : List ℕ

@@ -57,13 +57,13 @@ puts_row old new x = puts layout book_table is_table old new put_text x (λ _ _ 
 
 -- ---- all rows
 
-abbrev shows : List Term
+abbrev pub shows : List Term
 shows = col 1 1 ∷ col 1 2 ∷ []
 
-abbrev order : List (Term × Key)
+abbrev pub order : List (Term × Key)
 order = (col 1 1, ascending Binary) ∷ []
 
-abbrev names : List (List ℕ)
+abbrev pub names : List (List ℕ)
 names = codes "mark" ∷ codes "edition" ∷ []
 
 abbrev list_text : List ℕ

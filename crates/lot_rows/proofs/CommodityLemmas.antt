@@ -34,7 +34,7 @@ put_text = codes "INSERT OR REPLACE INTO commodity (name, day) VALUES (?1, ?2)"
 abbrev put_terms : List Term
 put_terms = lit Null ∷ col 0 0 ∷ col 0 1 ∷ []
 
-abbrev is_table : IsTable layout commodity_table
+abbrev pub is_table : IsTable layout commodity_table
 is_table = record {
   aligned = λ _. refl;
   held = λ _ _ h. h.1.1.1.0;
@@ -58,13 +58,13 @@ puts_row old new x = puts layout commodity_table is_table old new put_text x (λ
 
 -- ---- find
 
-abbrev shows : List Term
+abbrev pub shows : List Term
 shows = col 1 1 ∷ col 1 2 ∷ []
 
-abbrev order : List (Term × Key)
+abbrev pub order : List (Term × Key)
 order = (col 1 1, ascending Binary) ∷ []
 
-abbrev names : List (List ℕ)
+abbrev pub names : List (List ℕ)
 names = codes "name" ∷ codes "day" ∷ []
 
 abbrev find_text : List ℕ

@@ -94,13 +94,13 @@ adds_row old new x =
 
 -- ---- find
 
-abbrev shows : List Term
+abbrev pub shows : List Term
 shows = col 1 1 ∷ col 1 2 ∷ col 1 3 ∷ col 1 4 ∷ []
 
-abbrev order : List (Term × Key)
+abbrev pub order : List (Term × Key)
 order = (col 1 1, ascending Binary) ∷ []
 
-abbrev names : List (List ℕ)
+abbrev pub names : List (List ℕ)
 names = codes "number" ∷ codes "source" ∷ codes "name" ∷ codes "body" ∷ []
 
 abbrev tests : List Term

@@ -35,7 +35,7 @@ put_text = codes "INSERT OR REPLACE INTO head (account, commodity, day) VALUES (
 abbrev put_terms : List Term
 put_terms = lit Null ∷ col 0 0 ∷ col 0 1 ∷ col 0 2 ∷ []
 
-abbrev is_table : IsTable layout head_table
+abbrev pub is_table : IsTable layout head_table
 is_table = record {
   aligned = λ _. refl;
   held = λ _ _ h. h.1.1.1.1.1.1.1.1.1.1.0;
@@ -80,13 +80,13 @@ sets_row old new x = sets layout head_table is_table old new set_text x (set_is 
 
 -- ---- find
 
-abbrev shows : List Term
+abbrev pub shows : List Term
 shows = col 1 1 ∷ col 1 2 ∷ col 1 3 ∷ []
 
-abbrev order : List (Term × Key)
+abbrev pub order : List (Term × Key)
 order = (col 1 1, ascending Binary) ∷ (col 1 2, ascending Binary) ∷ []
 
-abbrev names : List (List ℕ)
+abbrev pub names : List (List ℕ)
 names = codes "account" ∷ codes "commodity" ∷ codes "day" ∷ []
 
 abbrev find_text : List ℕ

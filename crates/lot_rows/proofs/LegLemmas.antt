@@ -39,12 +39,12 @@ abbrev add_terms : List Term
 add_terms = lit Null ∷ col 0 0 ∷ col 0 1 ∷ col 0 2 ∷ col 0 3 ∷ col 0 4 ∷ col 0 5 ∷ col 0 6 ∷ col 0 7 ∷ col 0 8 ∷ col 0 9 ∷ []
 
 -- each value is of its column, whichever is there
-typed : (entry posting place : ℤ) (account commodity : List ℕ) (units : ℤ) (lot : Option LotKey) (id : ℤ)
+pub typed : (entry posting place : ℤ) (account commodity : List ℕ) (units : ℤ) (lot : Option LotKey) (id : ℤ)
     → (is_typed leg_table.table (Int id ∷ Int entry ∷ Int posting ∷ Int place ∷ Text account ∷ Text commodity ∷ Int units ∷ cost_number lot ∷ cost_currency lot ∷ cost_day lot ∷ cost_label lot ∷ []) ≡ true) × (accepts_terms add_terms (Int entry ∷ Int posting ∷ Int place ∷ Text account ∷ Text commodity ∷ Int units ∷ cost_number lot ∷ cost_currency lot ∷ cost_day lot ∷ cost_label lot ∷ []) ≡ true)
 typed entry posting place account commodity units None id = (refl, refl)
 typed entry posting place account commodity units (Some lot) id = (refl, refl)
 
-abbrev is_table : IsTable layout leg_table
+abbrev pub is_table : IsTable layout leg_table
 is_table = record {
   aligned = λ _. refl;
   held = λ _ _ h. h.1.1.1.1.1.1.0;
@@ -68,13 +68,13 @@ adds_row old new x = adds layout leg_table is_table old new add_text x (λ _ _ _
 
 -- ---- list_of
 
-abbrev shows : List Term
+abbrev pub shows : List Term
 shows = col 1 1 ∷ col 1 2 ∷ col 1 3 ∷ col 1 4 ∷ col 1 5 ∷ col 1 6 ∷ col 1 7 ∷ col 1 8 ∷ col 1 9 ∷ col 1 10 ∷ []
 
-abbrev order : List (Term × Key)
+abbrev pub order : List (Term × Key)
 order = (col 1 1, ascending Binary) ∷ (col 1 2, ascending Binary) ∷ (col 1 3, ascending Binary) ∷ []
 
-abbrev names : List (List ℕ)
+abbrev pub names : List (List ℕ)
 names = codes "entry" ∷ codes "posting" ∷ codes "place" ∷ codes "account" ∷ codes "commodity" ∷ codes "units" ∷ codes "cost_number" ∷ codes "cost_currency" ∷ codes "cost_day" ∷ codes "cost_label" ∷ []
 
 abbrev posting_text : List ℕ

@@ -71,28 +71,28 @@ same_row x y same =
     let entries : x.entries ≡ y.entries = cc in
     ap (λ (n : ℕ). record { entries = n }) entries
 
-abbrev list_shows : List Term
-list_shows = col 1 1 ∷ []
+abbrev pub shows : List Term
+shows = col 1 1 ∷ []
 
-abbrev list_order : List (Term × Key)
-list_order = (col 1 1, ascending Binary) ∷ []
+abbrev pub order : List (Term × Key)
+order = (col 1 1, ascending Binary) ∷ []
 
-abbrev list_names : List (List ℕ)
-list_names = codes "entries" ∷ []
+abbrev pub names : List (List ℕ)
+names = codes "entries" ∷ []
 
 abbrev list_text : List ℕ
 list_text = codes "SELECT entries FROM migration ORDER BY entries"
 
-pub list_query : IsQuery layout.schema migration_table.table.tree (key_terms 0 0) list_shows list_order list_names 0 list_text
+pub list_query : IsQuery layout.schema migration_table.table.tree (key_terms 0 0) shows order names 0 list_text
 unfolding understood everything
 list_query = record { means = refl; unlisted = refl; bare = (refl, refl); whole = (omega arith, refl); selects = (_, refl, refl) }
 
 list_asks : Asks layout migration_table [] (has_key 0 []) list_text
 list_asks = record {
   tests = key_terms 0 0;
-  shows = list_shows;
-  order = list_order;
-  names = list_names;
+  shows = shows;
+  order = order;
+  names = names;
   is = list_query;
   picks = record { alike = λ _ _. refl; blind = λ _ _ _. refl; shown = λ _. refl; sorts = λ _ _ _. refl; typed = refl };
 }

@@ -32,7 +32,7 @@ put_text = codes "INSERT OR REPLACE INTO opening (account, commodity, cost_day, 
 abbrev put_terms : List Term
 put_terms = lit Null ∷ col 0 0 ∷ col 0 1 ∷ col 0 2 ∷ col 0 3 ∷ col 0 4 ∷ col 0 5 ∷ col 0 6 ∷ []
 
-abbrev is_table : IsTable layout opening_table
+abbrev pub is_table : IsTable layout opening_table
 is_table = record {
   aligned = λ _. refl;
   held = λ _ _ h. h.1.1.1.1.1.1.1.1.1.1.1.0;
@@ -68,13 +68,13 @@ deletes_row old new account commodity lot = deletes_key layout opening_table is_
 
 -- ---- list_of
 
-abbrev shows : List Term
+abbrev pub shows : List Term
 shows = col 1 1 ∷ col 1 2 ∷ col 1 3 ∷ col 1 4 ∷ col 1 5 ∷ col 1 6 ∷ col 1 7 ∷ []
 
-abbrev order : List (Term × Key)
+abbrev pub order : List (Term × Key)
 order = (col 1 1, ascending Binary) ∷ (col 1 2, ascending Binary) ∷ (col 1 3, ascending Binary) ∷ (col 1 4, ascending Binary) ∷ (col 1 5, ascending Binary) ∷ (col 1 6, ascending Binary) ∷ []
 
-abbrev names : List (List ℕ)
+abbrev pub names : List (List ℕ)
 names = codes "account" ∷ codes "commodity" ∷ codes "cost_day" ∷ codes "cost_currency" ∷ codes "cost_number" ∷ codes "cost_label" ∷ codes "opening" ∷ []
 
 abbrev pair_text : List ℕ

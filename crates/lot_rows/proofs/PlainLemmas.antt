@@ -36,7 +36,7 @@ put_text = codes "INSERT OR REPLACE INTO plain (account, commodity, units) VALUE
 abbrev put_terms : List Term
 put_terms = lit Null ∷ col 0 0 ∷ col 0 1 ∷ col 0 2 ∷ []
 
-abbrev is_table : IsTable layout plain_table
+abbrev pub is_table : IsTable layout plain_table
 is_table = record {
   aligned = λ _. refl;
   held = λ _ _ h. h.1.1.1.1.1.1.1.1.1.0;
@@ -93,13 +93,13 @@ deletes_row old new account commodity = deletes_key layout plain_table is_table 
 
 -- ---- find and list
 
-abbrev shows : List Term
+abbrev pub shows : List Term
 shows = col 1 1 ∷ col 1 2 ∷ col 1 3 ∷ []
 
-abbrev order : List (Term × Key)
+abbrev pub order : List (Term × Key)
 order = (col 1 1, ascending Binary) ∷ (col 1 2, ascending Binary) ∷ []
 
-abbrev names : List (List ℕ)
+abbrev pub names : List (List ℕ)
 names = codes "account" ∷ codes "commodity" ∷ codes "units" ∷ []
 
 abbrev find_text : List ℕ

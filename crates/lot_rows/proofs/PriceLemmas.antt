@@ -1,8 +1,11 @@
 -- The statements on the table `price`.
 use Rattle.std.proofs.Common.{Result, ◌≡◌, ℕ, pos, List, [], ◌∷◌, codes, refl, arith}
+use Rattle.sqlite.specs.Collation.TheVariants.{Binary}
+use Rattle.sqlite.specs.Term.{Term, col, lit}
+use Rattle.sqlite_value.specs.Keys.{ascending}
+use Rattle.sqlite_value.specs.declared.keys.Key.{Key}
 use Rattle.sqlite.specs.Listing.{understood}
 use Rattle.sqlite.specs.State.{State}
-use Rattle.sqlite.specs.Term.{Term, col, lit}
 use Rattle.sqlite.specs.declared.types.Value.TheVariants.{Null}
 use Rattle.sqlite_tied.specs.Compute.{everything}
 use Rattle.lot_table.proofs.WriteLemmas.{cast_int}
@@ -28,7 +31,7 @@ put_text = codes "INSERT OR REPLACE INTO price (base, quote, day, rate) VALUES (
 abbrev put_terms : List Term
 put_terms = lit Null ∷ col 0 0 ∷ col 0 1 ∷ col 0 2 ∷ col 0 3 ∷ []
 
-abbrev is_table : IsTable layout price_table
+abbrev pub is_table : IsTable layout price_table
 is_table = record {
   aligned = λ _. refl;
   held = λ _ _ h. h.1.1.1.1.0;
@@ -49,3 +52,14 @@ put_is x = record { count = 5; terms = put_terms; means = refl; bare = (refl, re
 
 pub puts_row : (old new : State) (x : PriceRow) {A : Type 0} (result : Result A Fault) → Runs put_text (price_cells x) old new result → Puts layout price_table x old new result
 puts_row old new x = puts layout price_table is_table old new put_text x (λ _ _ _. refl) (put_is x)
+
+-- ---- what a query shows, and its order
+
+abbrev pub shows : List Term
+shows = col 1 1 ∷ col 1 2 ∷ col 1 3 ∷ col 1 4 ∷ []
+
+abbrev pub order : List (Term × Key)
+order = (col 1 1, ascending Binary) ∷ (col 1 2, ascending Binary) ∷ (col 1 3, ascending Binary) ∷ []
+
+abbrev pub names : List (List ℕ)
+names = codes "base" ∷ codes "quote" ∷ codes "day" ∷ codes "rate" ∷ []

@@ -1,8 +1,11 @@
 -- The statements on the table `sale`.
 use Rattle.std.proofs.Common.{Result, true, ◌≡◌, ℕ, pos, None, List, [], ◌∷◌, codes, refl, arith}
+use Rattle.sqlite.specs.Collation.TheVariants.{Binary}
+use Rattle.sqlite.specs.Term.{Term, col, lit}
+use Rattle.sqlite_value.specs.Keys.{ascending}
+use Rattle.sqlite_value.specs.declared.keys.Key.{Key}
 use Rattle.sqlite.specs.Listing.{understood}
 use Rattle.sqlite.specs.State.{State}
-use Rattle.sqlite.specs.Term.{Term, col, lit}
 use Rattle.sqlite.specs.declared.types.Value.TheVariants.{Null}
 use Rattle.sqlite_tied.specs.Compute.{everything}
 use Rattle.lot_table.proofs.WriteLemmas.{cast_int}
@@ -86,3 +89,14 @@ add_is x = record { count = 10; terms = add_terms; means = refl; bare = (refl, r
 
 pub adds_row : (old new : State) (x : SaleRow) {A : Type 0} (result : Result A Fault) → Runs add_text (sale_cells x) old new result → Adds layout sale_table x old new result
 adds_row old new x = adds layout sale_table is_table old new add_text x (λ _ _ _. refl) (add_is x)
+
+-- ---- what a query shows, and its order
+
+abbrev pub shows : List Term
+shows = col 1 1 ∷ col 1 2 ∷ col 1 3 ∷ col 1 4 ∷ col 1 5 ∷ col 1 6 ∷ col 1 7 ∷ col 1 8 ∷ col 1 9 ∷ []
+
+abbrev pub order : List (Term × Key)
+order = (col 1 1, ascending Binary) ∷ (col 1 2, ascending Binary) ∷ []
+
+abbrev pub names : List (List ℕ)
+names = codes "entry" ∷ codes "posting" ∷ codes "day" ∷ codes "account" ∷ codes "commodity" ∷ codes "units" ∷ codes "kind" ∷ codes "amount" ∷ codes "currency" ∷ []

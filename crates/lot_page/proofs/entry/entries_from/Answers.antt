@@ -5,7 +5,8 @@ use Rattle.sqlite_sql.specs.declared.ops.CompareOp.TheVariants.{Ge}
 use Rattle.lot_page.specs.Page.{entry_page_rows, is_from}
 use Rattle.lot_page.proofs.LevelLemmas.{terms}
 use Rattle.lot_page.proofs.PageLemmas.{answers}
-use Rattle.lot_page.proofs.EntryLemmas.{asks_from, from_key, from_text, names, order, shows}
+use Rattle.lot_page.proofs.EntryLemmas.{asks_from, from_key, from_text}
+use Rattle.lot_rows.proofs.EntryLemmas.{names, order, shows}
 use Rattle.lot_page.proofs.WalkLemmas.{taken}
 use Rattle.lot_rows.specs.Entry.{entry_cells}
 use Rattle.lot_rows.specs.Tables.{entry_table}

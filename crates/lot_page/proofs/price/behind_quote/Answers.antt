@@ -5,7 +5,8 @@ use Rattle.sqlite_sql.specs.declared.ops.CompareOp.TheVariants.{Ge}
 use Rattle.lot_page.specs.Page.{level, page_rows}
 use Rattle.lot_page.proofs.LevelLemmas.{terms}
 use Rattle.lot_page.proofs.PageLemmas.{answers}
-use Rattle.lot_page.proofs.PriceLemmas.{asks_quote, mounts_1, names, order, past_first, quote_key, quote_text, shows}
+use Rattle.lot_page.proofs.PriceLemmas.{asks_quote, mounts_1, past_first, quote_key, quote_text}
+use Rattle.lot_rows.proofs.PriceLemmas.{names, order, shows}
 use Rattle.lot_page.proofs.WalkLemmas.{later_pages, level_fails, level_pages}
 use Rattle.lot_rows.specs.Price.{price_cells}
 use Rattle.lot_rows.specs.Tables.{price_table}

@@ -5,7 +5,8 @@ use Rattle.sqlite_sql.specs.declared.ops.CompareOp.TheVariants.{Ge}
 use Rattle.lot_page.specs.Page.{is_from, page_rows}
 use Rattle.lot_page.proofs.LevelLemmas.{terms}
 use Rattle.lot_page.proofs.PageLemmas.{answers}
-use Rattle.lot_page.proofs.SaleLemmas.{asks_from, from_key, from_text, names, order, shows}
+use Rattle.lot_page.proofs.SaleLemmas.{asks_from, from_key, from_text}
+use Rattle.lot_rows.proofs.SaleLemmas.{names, order, shows}
 use Rattle.lot_page.proofs.WalkLemmas.{taken}
 use Rattle.lot_rows.specs.Sale.{sale_cells}
 use Rattle.lot_rows.specs.Tables.{sale_table}

@@ -5,7 +5,8 @@ use Rattle.sqlite_sql.specs.declared.ops.CompareOp.TheVariants.{Gt}
 use Rattle.lot_page.specs.Page.{level, page_rows}
 use Rattle.lot_page.proofs.LevelLemmas.{terms}
 use Rattle.lot_page.proofs.PageLemmas.{answers}
-use Rattle.lot_page.proofs.LotLemmas.{all_lots, asks_cost_label, cost_label_key, cost_label_text, mounts_at, names, order, shows}
+use Rattle.lot_page.proofs.LotLemmas.{all_lots, asks_cost_label, cost_label_key, cost_label_text, mounts_at}
+use Rattle.lot_rows.proofs.LotLemmas.{names, order, shows}
 use Rattle.lot_page.proofs.WalkLemmas.{later_pages, level_ends, level_fails, level_pages}
 use Rattle.lot_rows.specs.Lot.{lot_cells}
 use Rattle.lot_rows.specs.Tables.{lot_table}

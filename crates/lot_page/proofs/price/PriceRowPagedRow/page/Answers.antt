@@ -5,7 +5,8 @@ use Rattle.sqlite_sql.specs.declared.ops.CompareOp.TheVariants.{Gt}
 use Rattle.lot_page.specs.Page.{level, page_rows}
 use Rattle.lot_page.proofs.LevelLemmas.{terms}
 use Rattle.lot_page.proofs.PageLemmas.{answers}
-use Rattle.lot_page.proofs.PriceLemmas.{all_prices, asks_day, day_key, day_text, mounts_2, names, order, shows}
+use Rattle.lot_page.proofs.PriceLemmas.{all_prices, asks_day, day_key, day_text, mounts_2}
+use Rattle.lot_rows.proofs.PriceLemmas.{names, order, shows}
 use Rattle.lot_page.proofs.WalkLemmas.{later_pages, level_ends, level_fails, level_pages}
 use Rattle.lot_rows.specs.Price.{price_cells}
 use Rattle.lot_rows.specs.Tables.{price_table}

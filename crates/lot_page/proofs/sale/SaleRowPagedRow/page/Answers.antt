@@ -5,7 +5,8 @@ use Rattle.sqlite_sql.specs.declared.ops.CompareOp.TheVariants.{Gt}
 use Rattle.lot_page.specs.Page.{level, page_rows}
 use Rattle.lot_page.proofs.LevelLemmas.{terms}
 use Rattle.lot_page.proofs.PageLemmas.{answers}
-use Rattle.lot_page.proofs.SaleLemmas.{all_sales, asks_posting, mounts_1, names, order, past_first, posting_key, posting_text, shows}
+use Rattle.lot_page.proofs.SaleLemmas.{all_sales, asks_posting, mounts_1, past_first, posting_key, posting_text}
+use Rattle.lot_rows.proofs.SaleLemmas.{names, order, shows}
 use Rattle.lot_page.proofs.WalkLemmas.{later_pages, level_fails, level_pages}
 use Rattle.lot_rows.specs.Sale.{sale_cells}
 use Rattle.lot_rows.specs.Tables.{sale_table}
