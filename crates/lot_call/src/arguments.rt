@@ -2,10 +2,11 @@
 
 use crate::call::rounding_of;
 use crate::remains::say_cut_short;
-use crate::status::{DONE, STOPPED, UNUSABLE, out_of_memory};
+use crate::status::out_of_memory;
 use clap::error::ErrorKind as UsageKind;
 use lot_args::{BadOption, Needed, Notes, Request, WordsFault, parse_words, require_options};
 use lot_base::Label;
+use lot_stream::{DONE, STOPPED, UNUSABLE};
 use lot_without::{By, Without};
 use std::env;
 use std::io::{self, ErrorKind};

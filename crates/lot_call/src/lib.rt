@@ -45,7 +45,7 @@ pub use profile::{LoadFault, Loaded, load, loaded_from};
 pub use remains::{say_cut_short, say_unwritten};
 pub use remembered::Remembered;
 pub use standing::Standing;
-pub use status::{DONE, REFUSED, STOPPED, UNUSABLE, out_of_memory};
+pub use status::out_of_memory;
 pub use taken::say_taken;
 pub use told::{explain, tell};
 pub use watched::Watched;

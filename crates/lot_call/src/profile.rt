@@ -3,12 +3,13 @@
 ghost use Rattle.std.specs.Prelude.{IfErr, IfOk};
 ghost use Rattle.lot_call.specs.Loaded.{IsLoadFault, IsLoaded};
 
-use crate::status::{UNUSABLE, out_of_memory};
+use crate::status::out_of_memory;
 use lot_base::NameFault;
 use lot_export::rounding_of;
 use lot_profile::Profile;
 use lot_profile_text::{ProfileFault, fault_text, read_profile};
 use lot_rounding::Rounding;
+use lot_stream::UNUSABLE;
 use std::alloc::Global;
 use std::io::ErrorKind;
 use std::{fmt, fs};

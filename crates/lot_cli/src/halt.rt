@@ -15,7 +15,7 @@ use lot_input::{InputFault, print_input_fault};
 use lot_migrate::MigrateFault;
 use lot_report::{CountedWrite, PrintFault, print_texts};
 use lot_restore::RestoreFault;
-use lot_store::{AdoptFault, CreateFault};
+use lot_store::{AdoptFault, CreateFault, StoreFault};
 use lot_stream::Status;
 use lot_verify::VerifyFault;
 
@@ -76,9 +76,9 @@ pub(crate) fn create_name(fault: CreateFault) -> &'static str
 {
     match fault {
         CreateFault::NotABook => "S1 NotABook",
-        CreateFault::Device => "S4 Device",
-        CreateFault::InDoubt => "S5 InDoubt",
-        CreateFault::Memory => "Memory",
+        CreateFault::Device => StoreFault::Device.name(),
+        CreateFault::InDoubt => StoreFault::InDoubt.name(),
+        CreateFault::Memory => StoreFault::Memory.name(),
     }
 }
 
@@ -90,8 +90,8 @@ fn adopt_name(fault: AdoptFault) -> &'static str
         AdoptFault::NotABook => "S1 NotABook",
         AdoptFault::NewerEdition => "S2 NewerEdition",
         AdoptFault::OlderEdition => "S3 OlderEdition",
-        AdoptFault::Device => "S4 Device",
-        AdoptFault::Memory => "Memory",
+        AdoptFault::Device => StoreFault::Device.name(),
+        AdoptFault::Memory => StoreFault::Memory.name(),
     }
 }
 
@@ -102,10 +102,10 @@ fn migrate_name(fault: MigrateFault) -> &'static str
     match fault {
         MigrateFault::NotABook => "S1 NotABook",
         MigrateFault::NewerEdition => "S2 NewerEdition",
-        MigrateFault::Device => "S4 Device",
-        MigrateFault::InDoubt => "S5 InDoubt",
-        MigrateFault::Damaged => "S7 Damaged",
-        MigrateFault::Memory => "Memory",
+        MigrateFault::Device => StoreFault::Device.name(),
+        MigrateFault::InDoubt => StoreFault::InDoubt.name(),
+        MigrateFault::Damaged => StoreFault::Damaged.name(),
+        MigrateFault::Memory => StoreFault::Memory.name(),
     }
 }
 
@@ -117,8 +117,8 @@ fn verify_name(fault: VerifyFault) -> &'static str
         VerifyFault::NotABook => "S1 NotABook",
         VerifyFault::NewerEdition => "S2 NewerEdition",
         VerifyFault::OlderEdition => "S3 OlderEdition",
-        VerifyFault::Device => "S4 Device",
-        VerifyFault::Damaged => "S7 Damaged",
-        VerifyFault::Memory => "Memory",
+        VerifyFault::Device => StoreFault::Device.name(),
+        VerifyFault::Damaged => StoreFault::Damaged.name(),
+        VerifyFault::Memory => StoreFault::Memory.name(),
     }
 }

@@ -14,12 +14,9 @@ use lot_import::Numbered;
 use lot_input::{keyed_row, keyed_text};
 use lot_report::CountedWrite;
 use lot_rounding::Rounding;
-use lot_stream::CountedRead;
+use lot_stream::{CountedRead, UNUSABLE};
 use sqlite::{Alter, Connection};
 use std::alloc::Global;
-
-/// The status where the text for a row of a broker file isn't one command (`unfit` of the definitions).
-const UNFIT: u8 = 2;
 
 /// Posts the commands of a ledger text to the book that is there, from that number on, each under the key of its number in the
 /// batch.
@@ -105,7 +102,7 @@ pub(crate) fn post_row<R: CountedRead, W: CountedWrite, N: Watch + Look, S: Alte
             conn,
         ),
         Ok(None) => Served {
-            status: UNFIT,
+            status: UNUSABLE,
             halt: None,
             conn,
         },

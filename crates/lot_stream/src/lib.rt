@@ -4,7 +4,7 @@
 //! - `calls`: readers whose calls are counted (`CountedRead`, `Counted`).
 //! - `input`: all bytes of a reader (`slurp`).
 //! - `fault`: why a run ends before its end, and the line that reports it (`print_fault`).
-//! - `status`: how a run ended, and the end of its output (`finish`).
+//! - `status`: how a run ended, the numbers with which the program ends, and the end of its output (`finish`).
 #![tactic(auto)]
 
 mod calls;
@@ -15,4 +15,4 @@ mod status;
 pub use calls::{Counted, CountedRead};
 pub use fault::{Fault, print_fault};
 pub use input::{SlurpFault, slurp};
-pub use status::{Status, finish};
+pub use status::{BAD_INPUT, DONE, REFUSED, STOPPED, Status, UNUSABLE, finish};

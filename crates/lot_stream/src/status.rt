@@ -5,6 +5,21 @@ ghost use Rattle.lot_stream.specs.Status.{Ends, EndsIfFailed, IsStatus, after_fl
 use lot_report::{CountedWrite, PrintFault};
 use std::io;
 
+/// The status of a call that did what was asked for, or showed it.
+pub const DONE: u8 = 0;
+
+/// The status of an action that ran to its end, where some of its commands were refused. That of a fault is greater.
+pub const REFUSED: u8 = 1;
+
+/// The status of arguments that can't be used.
+pub const UNUSABLE: u8 = 2;
+
+/// The status of an input that can't be read, or isn't what it should be.
+pub const BAD_INPUT: u8 = 3;
+
+/// The status where memory ends, a file can't be opened, a book is damaged or the output can't be written.
+pub const STOPPED: u8 = 4;
+
 /// How a run ended.
 #[derive(Clone, Copy, Debug, PartialEq, Eq)]
 pub enum Status {
@@ -32,10 +47,10 @@ impl Status {
         ensures status { IsStatus result }
     {
         match self {
-            Status::Accepted => 0,
-            Status::Refused => 1,
-            Status::BadInput => 3,
-            Status::Stopped => 4,
+            Status::Accepted => DONE,
+            Status::Refused => REFUSED,
+            Status::BadInput => BAD_INPUT,
+            Status::Stopped => STOPPED,
         }
     }
 }

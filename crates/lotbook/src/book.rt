@@ -4,12 +4,13 @@ ghost use Rattle.std.specs.Prelude.{◌≡◌, None, false};
 
 use crate::answer::answer;
 use crate::comparison::{Old, show_differences, take_up};
-use lot_call::{Call, DONE, REFUSED, STOPPED, UNUSABLE, out_of_memory, say_why};
+use lot_call::{Call, out_of_memory, say_why};
 use lot_cli::{Action, Effect, Restore, Served, Status};
 use lot_files::{
     Access, BookFile, Cause, Opened, ensure_openable, is_missing, library_path, open_book,
     open_nothing,
 };
+use lot_stream::{DONE, REFUSED, STOPPED, UNUSABLE};
 use sqlite::{Connection, FileStore};
 
 /// Does what a call is for, and returns the status of the program. Where the book can't be opened, a

@@ -1,7 +1,7 @@
 //! The old book beside which a new one is made of a dump, and how they differ.
 
 use crate::answer::advise;
-use lot_call::{Call, Fate, STOPPED, say_unwritten, say_why};
+use lot_call::{Call, Fate, say_unwritten, say_why};
 use lot_cli::{AdoptFault, CountedWriter, Halt, Status, say_halt, tell_differences};
 use lot_files::{
     Access, BookFile, Cause, Opened, ensure_openable, is_missing, library_path, open_book,
@@ -9,6 +9,7 @@ use lot_files::{
 };
 use lot_output::{Output, Witness};
 use lot_store::{Book, HandedBack, adopt};
+use lot_stream::STOPPED;
 use sqlite::{Alter, Connection, FileStore};
 
 /// A book that is only read, and where it is.
