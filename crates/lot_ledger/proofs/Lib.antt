@@ -4,5 +4,3 @@ pub mod CheckLemmas
 pub mod FitLemmas
 pub mod HeadLemmas
 pub mod FillLemmas
-pub mod OpenLotLemmas
-pub mod OpeningRowLemmas

@@ -1,3 +1,2 @@
 pub mod Decide
-pub mod LotOpenings
 pub mod Fit

@@ -4,14 +4,12 @@
 //! - `checks`: the refusals of a transaction that look at its postings and accounts.
 //! - `fill`: the legs of the elided posting.
 //! - `heads`: the latest days of postings with braces.
-//! - `opening_numbers`: the lots in which legs leave units, and the posting that opened each.
 #![tactic(auto)]
 
 mod checks;
 mod decision;
 mod fill;
 mod heads;
-mod opening_numbers;
 
 pub use decision::{Outcome, book_amounts, decide};
 pub use lot_book::{
@@ -19,4 +17,3 @@ pub use lot_book::{
     Verdict,
 };
 pub use lot_view::{Touched, View, touches};
-pub use opening_numbers::{LegFault, LotOpening, OpenLots, openings};

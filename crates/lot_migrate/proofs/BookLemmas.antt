@@ -3,9 +3,9 @@ use Rattle.std.proofs.Common.{◌≡◌, All, Err, List, Ok, Vec, map, ℕ}
 use Rattle.std.specs.declared.alloc.Global.{Global}
 use Rattle.sqlite.specs.State.{State}
 use Rattle.lot_book.specs.declared.leg.Leg.{Leg}
-use Rattle.lot_ledger.specs.LotOpenings.{Keeps, ListsOpenings}
-use Rattle.lot_ledger.specs.declared.opening_numbers.LotOpening.{LotOpening}
-use Rattle.lot_ledger.specs.declared.opening_numbers.OpenLots.{OpenLots}
+use Rattle.lot_migrate.specs.LotOpenings.{Keeps, ListsOpenings}
+use Rattle.lot_migrate.specs.declared.opening_numbers.LotOpening.{LotOpening}
+use Rattle.lot_migrate.specs.declared.opening_numbers.OpenLots.{OpenLots}
 use Rattle.lot_table.specs.declared.fault.Fault.{Fault}
 use Rattle.lot_table.specs.declared.fault.Fault.TheVariants.{Memory}
 use Rattle.lot_rows.proofs.StateLemmas.{early, survives_both, survives_same}

@@ -18,7 +18,7 @@ use Rattle.lot_migrate.specs.Migrate.{MigratesMarked, NotTakenOver}
 use Rattle.lot_migrate.specs.Put.{HasNoRoom, IsFullForAll, PutsRows, with_all}
 use Rattle.lot_migrate.specs.Read.{CanMigrate, IsReading, ListsTable, Reads}
 use Rattle.lot_migrate.specs.Rows.{bare, migrated, row_of_opening}
-use Rattle.lot_ledger.specs.declared.opening_numbers.LotOpening.{LotOpening}
+use Rattle.lot_migrate.specs.declared.opening_numbers.LotOpening.{LotOpening}
 use Rattle.lot_migrate.specs.declared.fill.Reading.{Reading}
 use Rattle.lot_migrate.proofs.NumberLemmas.{openings_rise}
 use Rattle.lot_migrate.proofs.PutLemmas.{all_put, failed_later}

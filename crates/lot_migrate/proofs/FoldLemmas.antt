@@ -5,8 +5,8 @@ use Rattle.std.specs.declared.alloc.Global.{Global}
 use Rattle.sqlite.specs.Order.{Row}
 use Rattle.sqlite.specs.State.{HasCleanDisk, State, Survives}
 use Rattle.lot_book.specs.declared.leg.Leg.{Leg}
-use Rattle.lot_ledger.specs.LotOpenings.{Keeps}
-use Rattle.lot_ledger.specs.declared.opening_numbers.OpenLots.{OpenLots}
+use Rattle.lot_migrate.specs.LotOpenings.{Keeps}
+use Rattle.lot_migrate.specs.declared.opening_numbers.OpenLots.{OpenLots}
 use Rattle.lot_table.proofs.MakeLemmas.{keeps_then, keeps_undone}
 use Rattle.lot_table.specs.declared.fault.Fault.{Fault}
 use Rattle.lot_table.specs.declared.fault.Fault.TheVariants.{Damaged, Device, Memory}

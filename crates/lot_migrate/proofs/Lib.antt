@@ -1,3 +1,5 @@
+pub mod OpenLotLemmas
+pub mod OpeningRowLemmas
 pub mod LotLegLemmas
 pub mod LegLemmas
 pub mod OpeningLemmas

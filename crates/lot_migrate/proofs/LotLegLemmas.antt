@@ -14,8 +14,8 @@ use Rattle.lot_book.specs.declared.leg.Position.{Position}
 use Rattle.lot_book.proofs.CaseLemmas.{by_bool}
 use Rattle.lot_book.proofs.OrderLemmas.{one_position}
 use Rattle.lot_laws.proofs.OpeningLemmas.{number_has, number_is}
-use Rattle.lot_ledger.specs.LotOpenings.{ListsOpenings, lot_of}
-use Rattle.lot_ledger.specs.declared.opening_numbers.LotOpening.{LotOpening}
+use Rattle.lot_migrate.specs.LotOpenings.{ListsOpenings, lot_of}
+use Rattle.lot_migrate.specs.declared.opening_numbers.LotOpening.{LotOpening}
 use Rattle.lot_migrate.specs.Rows.{at_lots, is_at_lot}
 
 -- ---- one lot

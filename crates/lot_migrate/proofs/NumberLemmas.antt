@@ -8,8 +8,8 @@ use Rattle.sqlite_rules.specs.Lists.{Has}
 use Rattle.lot_book.specs.OpeningNumber.{HasOpeningNumber, IsNumbered, posting_number}
 use Rattle.lot_book.specs.declared.leg.Leg.{Leg}
 use Rattle.lot_book.specs.declared.leg.Position.{Position}
-use Rattle.lot_ledger.specs.LotOpenings.{ListsOpenings, lot_of}
-use Rattle.lot_ledger.specs.declared.opening_numbers.LotOpening.{LotOpening}
+use Rattle.lot_migrate.specs.LotOpenings.{ListsOpenings, lot_of}
+use Rattle.lot_migrate.specs.declared.opening_numbers.LotOpening.{LotOpening}
 use Rattle.lot_stored.proofs.OrderLemmas.{IsRising}
 use Rattle.lot_table.specs.Cell.{IsOpeningNumber}
 use Rattle.lot_rows.specs.Leg.{IsLegRow}

@@ -28,8 +28,8 @@ use Rattle.lot_stored.proofs.KeyLemmas.{lot_rows_order}
 use Rattle.lot_stored.proofs.LookupLemmas.{put_in-last}
 use Rattle.lot_stored.proofs.OneTablesLemmas.{same_list}
 use Rattle.lot_stored.proofs.OrderLemmas.{IsRising, row_order, row_order-total}
-use Rattle.lot_ledger.specs.LotOpenings.{ListsOpenings, lot_of}
-use Rattle.lot_ledger.specs.declared.opening_numbers.LotOpening.{LotOpening}
+use Rattle.lot_migrate.specs.LotOpenings.{ListsOpenings, lot_of}
+use Rattle.lot_migrate.specs.declared.opening_numbers.LotOpening.{LotOpening}
 use Rattle.lot_migrate.specs.Rows.{row_of_opening}
 
 -- ---- the order

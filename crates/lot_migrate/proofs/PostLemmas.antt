@@ -4,8 +4,8 @@ use Rattle.std.proofs.lemmas.List.{append_assoc, map-append}
 use Rattle.sqlite.specs.Order.{Row}
 use Rattle.lot_book.specs.OpeningNumber.{IsNumbered}
 use Rattle.lot_book.specs.declared.leg.Leg.{Leg}
-use Rattle.lot_ledger.specs.LotOpenings.{Keeps, LeavesRange}
-use Rattle.lot_ledger.specs.declared.opening_numbers.OpenLots.{OpenLots}
+use Rattle.lot_migrate.specs.LotOpenings.{Keeps, LeavesRange}
+use Rattle.lot_migrate.specs.declared.opening_numbers.OpenLots.{OpenLots}
 use Rattle.lot_rows.specs.Leg.{IsLegRow, leg_cells}
 use Rattle.lot_rows.specs.declared.leg.LegRow.{LegRow}
 use Rattle.std.proofs.lemmas.List.Elements.{recursion_from_All}

@@ -19,8 +19,8 @@ use Rattle.lot_stored.specs.Kept.{SalesOf}
 use Rattle.lot_stored.specs.Rows.{migration_row, sale_row}
 use Rattle.lot_stored.specs.StandFor.{StandFor}
 use Rattle.lot_stored.proofs.KeptLemmas.{greatest_counts}
-use Rattle.lot_ledger.specs.LotOpenings.{LeavesRange, ListsOpenings}
-use Rattle.lot_ledger.specs.declared.opening_numbers.LotOpening.{LotOpening}
+use Rattle.lot_migrate.specs.LotOpenings.{LeavesRange, ListsOpenings}
+use Rattle.lot_migrate.specs.declared.opening_numbers.LotOpening.{LotOpening}
 use Rattle.lot_migrate.specs.First.{StandForFirst}
 use Rattle.lot_migrate.specs.Rows.{leg_of, legs_in, migrated, row_of_opening}
 use Rattle.lot_migrate.proofs.LegLemmas.{legs_are_numbered, lot_legs_in_table, lots_stay_in_range}

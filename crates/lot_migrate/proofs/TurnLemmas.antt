@@ -7,7 +7,7 @@ use Rattle.sqlite.specs.Store.{Ghosts}
 use Rattle.sqlite.specs.declared.error.Error.{Error}
 use Rattle.lot_book.specs.Book.{IsBook}
 use Rattle.lot_book.specs.Facts.{Entry}
-use Rattle.lot_ledger.specs.LotOpenings.{ListsOpenings}
+use Rattle.lot_migrate.specs.LotOpenings.{ListsOpenings}
 use Rattle.lot_stored.specs.StandFor.{StandFor}
 use Rattle.lot_table.specs.Book.{Holds}
 use Rattle.lot_rows.specs.Entry.{IsEntryRow}

@@ -1,3 +1,4 @@
+pub mod LotOpenings
 pub mod First
 pub mod Rows
 pub mod Fault

@@ -4,7 +4,7 @@ use Rattle.sqlite.specs.State.{IsUnchanged, State}
 use Rattle.sqlite.specs.Tree.{Trees}
 use Rattle.sqlite_disk.specs.Disk.{MoreFaults}
 use Rattle.lot_book.specs.Facts.{Entry}
-use Rattle.lot_ledger.specs.declared.opening_numbers.LotOpening.{LotOpening}
+use Rattle.lot_migrate.specs.declared.opening_numbers.LotOpening.{LotOpening}
 use Rattle.lot_stored.specs.Rows.{marked}
 use Rattle.lot_stored.specs.StandFor.{Left, Stands}
 use Rattle.lot_table.specs.Statement.{DiskFailed}

@@ -9,9 +9,9 @@ use Rattle.lot_book.specs.Leg.{sum_at}
 use Rattle.lot_book.specs.OpeningNumber.{IsNumbered}
 use Rattle.lot_book.specs.declared.leg.Leg.{Leg}
 use Rattle.lot_book.specs.declared.leg.Position.{Position}
-use Rattle.lot_ledger.specs.LotOpenings.{Keeps, ListsOpenings}
-use Rattle.lot_ledger.specs.declared.opening_numbers.LotOpening.{LotOpening}
-use Rattle.lot_ledger.specs.declared.opening_numbers.OpenLots.{OpenLots}
+use Rattle.lot_migrate.specs.LotOpenings.{Keeps, ListsOpenings}
+use Rattle.lot_migrate.specs.declared.opening_numbers.LotOpening.{LotOpening}
+use Rattle.lot_migrate.specs.declared.opening_numbers.OpenLots.{OpenLots}
 use Rattle.lot_table.specs.Cell.{IsOpeningNumber, IsOrdinal}
 use Rattle.lot_table.specs.Statement.{DiskFailed}
 use Rattle.lot_table.specs.declared.fault.Fault.{Fault}

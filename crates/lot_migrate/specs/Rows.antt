@@ -1,7 +1,7 @@
 -- The rows that migration reads and puts.
 use Rattle.std.specs.Prelude.{ℕ, Bool, List, [], ◌∷◌, filter, map, is_some}
 use Rattle.lot_book.specs.declared.leg.Leg.{Leg}
-use Rattle.lot_ledger.specs.declared.opening_numbers.LotOpening.{LotOpening}
+use Rattle.lot_migrate.specs.declared.opening_numbers.LotOpening.{LotOpening}
 use Rattle.lot_rows.specs.Tables.{Tables}
 use Rattle.lot_rows.specs.declared.leg.LegRow.{LegRow}
 use Rattle.lot_rows.specs.declared.opening.OpeningRow.{OpeningRow}

@@ -39,8 +39,8 @@ ghost use Rattle.sqlite.specs.State.{HasCleanDisk, KeepsCommit, Survives};
 
 use crate::fault::MigrateFault;
 use crate::fold::fold_legs;
+use crate::opening_numbers::LotOpening;
 use crate::progress::Progress;
-use lot_ledger::LotOpening;
 use lot_rows::book::{self, BookRow};
 use lot_rows::migration::{self, MigrationRow};
 use lot_rows::opening::OpeningRow;

@@ -1,7 +1,7 @@
 ghost use Rattle.std.specs.Prelude.{◌≡◌, ◌≢◌, [], ◌∷◌, ◌++◌, All, Err, IfOk, List, OnOk, SomeIff, map};
 ghost use Rattle.lot_book.specs.OpeningNumber.{IsNumbered};
 ghost use Rattle.lot_book.specs.declared.leg.Leg.{Leg};
-ghost use Rattle.lot_ledger.specs.LotOpenings.{Keeps, LeavesRange};
+ghost use Rattle.lot_migrate.specs.LotOpenings.{Keeps, LeavesRange};
 ghost use Rattle.lot_migrate.specs.Read.{
   AreLegs,
   CanFold,
@@ -15,9 +15,9 @@ ghost use Rattle.lot_rows.specs.Leg.{IsLegRow, leg_cells};
 ghost use Rattle.lot_rows.specs.declared.leg.LegRow.{LegRow};
 ghost use Rattle.sqlite.specs.Held.{state};
 
+use crate::opening_numbers::{LegFault, OpenLots};
 use crate::progress::Progress;
 use lot_book::{Leg, MOST_POSTINGS, Position};
-use lot_ledger::{LegFault, OpenLots};
 use lot_page::legs_behind;
 use lot_rows::leg::LegRow;
 use lot_table::{Fault, TableRow};

@@ -6,8 +6,9 @@ ghost use Rattle.lot_book.specs.OpeningNumber.{IsNumbered, StayInRange};
 use crate::assert_text;
 use crate::copies::{account, commodity, lot};
 use lot_base::Label;
+use lot_book::{Leg, Position};
 use lot_cost::LotKey;
-use lot_ledger::{Leg, LotOpening, Position, openings};
+use lot_migrate::{LotOpening, openings};
 use lot_num::Units;
 use std::process::Abort;
 

@@ -1,6 +1,6 @@
 use Rattle.std.proofs.Common.{◌≡◌, ◌∙◌, ◌∷◌, ◌++◌, [], Err, ap, subst, sym}
 use Rattle.lot_book.specs.declared.leg.Leg.{Leg}
-use Rattle.lot_ledger.specs.LotOpenings.{Keeps, LeavesRange}
+use Rattle.lot_migrate.specs.LotOpenings.{Keeps, LeavesRange}
 use Rattle.lot_migrate.specs.Rows.{leg_of}
 use Rattle.lot_migrate.proofs.RowLemmas.{one_leg}
 use Rattle.lot_migrate.proofs.fold.post_row.Goals as goal

@@ -2,9 +2,9 @@
 use Rattle.std.proofs.Common.{◌≡◌, [], ◌++◌, sym, ap, subst, ◌∙◌}
 use Rattle.std.proofs.lemmas.List.{append-nil}
 use Rattle.std.specs.List.{filter_map}
-use Rattle.lot_ledger.proofs.OpeningRowLemmas.{lists-rows}
-use Rattle.lot_ledger.specs.LotOpenings.{ListsOpenings, row_of}
-use Rattle.lot_ledger.proofs.opening_numbers.OpenLots.into_openings.Goals as goal
+use Rattle.lot_migrate.proofs.OpeningRowLemmas.{lists-rows}
+use Rattle.lot_migrate.specs.LotOpenings.{ListsOpenings, row_of}
+use Rattle.lot_migrate.proofs.opening_numbers.OpenLots.into_openings.Goals as goal
 
 pub returns-clause-lists : goal.returns-clause-lists
 returns-clause-lists c legs keeps =

@@ -10,9 +10,9 @@ use Rattle.lot_book.specs.declared.leg.Leg.{Leg}
 use Rattle.lot_book.specs.declared.leg.Position.{Position}
 use Rattle.lot_book.specs.Leg.{position_cmp, sum_at}
 use Rattle.lot_book.specs.OpeningNumber.{HasOpeningNumber, posting_number}
-use Rattle.lot_ledger.specs.declared.opening_numbers.LotOpening.{LotOpening}
-use Rattle.lot_ledger.specs.declared.opening_numbers.OpenLot.{OpenLot}
-use Rattle.lot_ledger.specs.declared.opening_numbers.OpenLots.{OpenLots}
+use Rattle.lot_migrate.specs.declared.opening_numbers.LotOpening.{LotOpening}
+use Rattle.lot_migrate.specs.declared.opening_numbers.OpenLot.{OpenLot}
+use Rattle.lot_migrate.specs.declared.opening_numbers.OpenLots.{OpenLots}
 
 -- ---- The rows.
 

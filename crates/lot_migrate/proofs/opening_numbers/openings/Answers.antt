@@ -2,9 +2,9 @@
 use Rattle.std.proofs.Common.{Ok, Err, ◌≡◌, take, refl, subst}
 use Rattle.std.specs.Prelude.{IfOk, List}
 use Rattle.lot_book.specs.declared.leg.Leg.{Leg}
-use Rattle.lot_ledger.specs.LotOpenings.{Keeps, ListsOpenings}
-use Rattle.lot_ledger.proofs.OpenLotLemmas.{all_kept, next_kept}
-use Rattle.lot_ledger.proofs.opening_numbers.openings.Goals as goal
+use Rattle.lot_migrate.specs.LotOpenings.{Keeps, ListsOpenings}
+use Rattle.lot_migrate.proofs.OpenLotLemmas.{all_kept, next_kept}
+use Rattle.lot_migrate.proofs.opening_numbers.openings.Goals as goal
 
 pub loop-leg-preserved : goal.loop-leg-preserved
 loop-leg-preserved c =

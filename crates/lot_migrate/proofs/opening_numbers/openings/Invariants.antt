@@ -1,6 +1,6 @@
 use Rattle.std.proofs.Common.{take}
-use Rattle.lot_ledger.specs.LotOpenings.{Keeps}
-use Rattle.lot_ledger.proofs.opening_numbers.openings.Given as goal
+use Rattle.lot_migrate.specs.LotOpenings.{Keeps}
+use Rattle.lot_migrate.proofs.opening_numbers.openings.Given as goal
 
 -- the lots are kept as the legs so far leave them
 abbrev pub invariant-loop-leg : goal.invariant-loop-leg

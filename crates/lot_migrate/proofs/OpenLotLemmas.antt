@@ -17,10 +17,10 @@ use Rattle.lot_book.specs.OpeningNumber.{HasOpeningNumber, posting_number}
 use Rattle.lot_book.proofs.CaseLemmas.{by_bool}
 use Rattle.lot_book.proofs.OrderLemmas.{one_position, same_position-itself, same_position-turned}
 use Rattle.lot_laws.proofs.OpeningLemmas.{number_elsewhere, number_has, number_is, number_kept, is_zero, not_zero, number_opened, some_units, sum_at-push, sum_at-push_apart, zero_is}
-use Rattle.lot_ledger.specs.declared.opening_numbers.OpenLot.{OpenLot}
+use Rattle.lot_migrate.specs.declared.opening_numbers.OpenLot.{OpenLot}
 use Rattle.lot_book.specs.OpeningNumber.{StayInRange}
-use Rattle.lot_ledger.specs.LotOpenings.{IsKept, Keeps, KeepsLots, LeavesRange, lot_with, units_kept}
-use Rattle.lot_ledger.specs.declared.opening_numbers.OpenLots.{OpenLots}
+use Rattle.lot_migrate.specs.LotOpenings.{IsKept, Keeps, KeepsLots, LeavesRange, lot_with, units_kept}
+use Rattle.lot_migrate.specs.declared.opening_numbers.OpenLots.{OpenLots}
 
 pub units_kept-sum : (legs : List Leg) (lot : Position) (kept : Option OpenLot) → IsKept legs lot kept
     → units_kept kept ≡ sum_at legs lot

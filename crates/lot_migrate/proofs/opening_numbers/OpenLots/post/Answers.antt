@@ -5,12 +5,12 @@ use Rattle.std.specs.BTreeMap.{get}
 use Rattle.std.specs.Ordering.{int_eq}
 use Rattle.lot_book.specs.declared.leg.Leg.{Leg}
 use Rattle.lot_book.specs.Leg.{position_cmp}
-use Rattle.lot_ledger.specs.declared.opening_numbers.OpenLots.{OpenLots}
-use Rattle.lot_ledger.specs.LotOpenings.{Keeps}
-use Rattle.lot_ledger.proofs.OpenLotLemmas.{after_with, changes-inserted, kept_emptied, kept_here, stays_within, keeps_plain, keeps_push, keeps_same, leaves_range, lot_before}
+use Rattle.lot_migrate.specs.declared.opening_numbers.OpenLots.{OpenLots}
+use Rattle.lot_migrate.specs.LotOpenings.{Keeps}
+use Rattle.lot_migrate.proofs.OpenLotLemmas.{after_with, changes-inserted, kept_emptied, kept_here, stays_within, keeps_plain, keeps_push, keeps_same, leaves_range, lot_before}
 use Rattle.lot_laws.proofs.OpeningLemmas.{some_units, zero_is}
-use Rattle.lot_ledger.proofs.opening_numbers.OpenLots.post.Goals.{in-Ok-insert, in-Err}
-use Rattle.lot_ledger.proofs.opening_numbers.OpenLots.post.Goals as goal
+use Rattle.lot_migrate.proofs.opening_numbers.OpenLots.post.Goals.{in-Ok-insert, in-Err}
+use Rattle.lot_migrate.proofs.opening_numbers.OpenLots.post.Goals as goal
 
 pub returns-then-is_none-clause-adds : goal.returns-then-is_none-clause-adds
 returns-then-is_none-clause-adds c legs keeps =

@@ -2,8 +2,8 @@ ghost use Rattle.std.specs.Prelude.{◌≡◌, ◌↔◌, [], ◌∷◌, ◌++�
 ghost use Rattle.lot_num.specs.Amount.{IsUnits};
 ghost use Rattle.lot_book.specs.declared.leg.Leg.{Leg};
 ghost use Rattle.lot_book.specs.OpeningNumber.{IsNumbered, StayInRange};
-ghost use Rattle.lot_ledger.specs.LotOpenings.{Keeps, LeavesRange, ListsOpenings, lot_with, row_of};
-ghost use Rattle.lot_ledger.specs.declared.opening_numbers.LegFault.TheVariants.{Memory, Range};
+ghost use Rattle.lot_migrate.specs.LotOpenings.{Keeps, LeavesRange, ListsOpenings, lot_with, row_of};
+ghost use Rattle.lot_migrate.specs.declared.opening_numbers.LegFault.TheVariants.{Memory, Range};
 
 use lot_base::{Account, Commodity};
 use lot_book::{Leg, Position};

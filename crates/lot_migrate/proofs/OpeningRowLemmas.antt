@@ -17,9 +17,9 @@ use Rattle.lot_book.specs.Leg.{position_cmp, same_position, sum_at}
 use Rattle.lot_book.specs.OpeningNumber.{HasOpeningNumber}
 use Rattle.lot_book.proofs.CaseLemmas.{by_bool}
 use Rattle.lot_book.proofs.OrderLemmas.{one_position, positions_total}
-use Rattle.lot_ledger.specs.declared.opening_numbers.LotOpening.{LotOpening}
-use Rattle.lot_ledger.specs.declared.opening_numbers.OpenLot.{OpenLot}
-use Rattle.lot_ledger.specs.LotOpenings.{IsKept, KeepsLots, ListsOpenings, lot_of, row_of}
+use Rattle.lot_migrate.specs.declared.opening_numbers.LotOpening.{LotOpening}
+use Rattle.lot_migrate.specs.declared.opening_numbers.OpenLot.{OpenLot}
+use Rattle.lot_migrate.specs.LotOpenings.{IsKept, KeepsLots, ListsOpenings, lot_of, row_of}
 
 -- ---- One row.
 
