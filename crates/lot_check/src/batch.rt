@@ -16,9 +16,9 @@ mod report;
 use lot_command::Command;
 use lot_completion::{Watch, untaken};
 use lot_ledger::{Edition, Outcome, Stop, Verdict, View, decide};
+use lot_read::read;
 use lot_report::{CountedWrite, PrintFault, print_reply};
 use lot_stream::{CountedRead, Fault, Status, finish, print_fault, slurp};
-use lot_text::read;
 use report::print_holdings;
 use std::alloc::{AllocError, Global};
 

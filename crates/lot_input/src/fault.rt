@@ -7,9 +7,9 @@ use crate::export_fault::{print_export_fault, status_of_export};
 use itoa::Buffer;
 use lot_export::ExportFault;
 use lot_import::{Cause, KeyedFault, RowsFault};
+use lot_read::TextFault;
 use lot_report::{CountedWrite, PrintFault, print_texts};
 use lot_stream::{Fault, SlurpFault, Status, print_fault};
-use lot_text::TextFault;
 use std::alloc::AllocError;
 use thiserror::Error;
 

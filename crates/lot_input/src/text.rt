@@ -9,9 +9,9 @@ use lot_args::Batch;
 use lot_base::Label;
 use lot_command::{Command, Key};
 use lot_import::Numbered;
+use lot_read::read;
 use lot_rounding::Asked;
 use lot_stream::{CountedRead, slurp};
-use lot_text::read;
 use std::alloc::Global;
 
 /// Reads all that a reader has as ledger text. Returns its commands from that number on, each under the key of its number in

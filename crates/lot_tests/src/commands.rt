@@ -1,7 +1,8 @@
 //! The canonical texts of commands.
 
 use crate::assert_text;
-use lot_text::{print, read};
+use lot_print::print;
+use lot_read::read;
 
 /// Commands of each kind, and postings of each form.
 const TEXT: &str = "\

@@ -8,7 +8,7 @@ use lot_command::{Currencies, Key, Method, Price, UnitPrice};
 use lot_cost::LotKey;
 use lot_import::{Accounts, read_rows};
 use lot_num::{Rate, Units};
-use lot_text::read;
+use lot_read::read;
 use std::process::Abort;
 
 pub(crate) fn account(rt: &(impl Abort + AllocGlobal)) -> Account {

@@ -7,9 +7,9 @@ use lot_import::{Cause, CommandFault, KeyedFault, RowsFault};
 use lot_inv::InventoryFault;
 use lot_num::NumberFault::{Negative, Syntax, TooLarge, TooManyDecimals};
 use lot_num::{NumberFault, Rate, Units};
+use lot_read::LineFault;
 use lot_report::{JournalFault, PrintFault, ReportFault, RowFault};
 use lot_stream::{Fault, SlurpFault};
-use lot_text::LineFault;
 use std::fmt::{Debug, Display};
 use std::process::Abort;
 
