@@ -740,6 +740,17 @@ def between(text, name, lines):
     return text[:at] + "\n" + "\n".join(lines) + "\n\n" + text[text.index(end, at) :]
 
 
+def whole_run():
+    """What the last run of all that is tested came to."""
+    kept = ROOT / "bench/whole.json"
+    if not kept.exists():
+        yield "`./test whole` hasn't been run from end to end."
+        return
+    ran = json.loads(kept.read_text())
+    place = "commit %s" % ran["commit"] + (", with changes" if ran["changed"] else "")
+    yield "`./test whole` on %s, at %s: %d passed, %d failed." % (ran["date"], place, ran["passed"], ran["failed"])
+
+
 def generated():
     """Each page that is written here, or in part, as it has to be."""
     below = stands_on()
@@ -755,6 +766,7 @@ def generated():
     research = between((ROOT / "docs/RESEARCH.md").read_text(), "headline", headline())
     research = between(research, "sizes", sizes(below))
     research = between(research, "prover", prover_time(below))
+    research = between(research, "whole", whole_run())
     return OrderedDict(
         [
             ("docs/CALLS.md", "\n".join(calls(crates))),
