@@ -12,7 +12,7 @@ ghost use Rattle.std.specs.Prelude.{
   length,
   option_copied,
 };
-ghost use Rattle.lot_report.specs.Output.{HasFailed, NoneFailed};
+ghost use Rattle.lot_report.specs.Output.{HasFailed, NoneFailed, writes_between};
 ghost use Rattle.lot_report.specs.Written.{WritesLine};
 ghost use Rattle.lot_atomic.specs.Replies.{
   RunsAll,
@@ -85,10 +85,8 @@ pub fn run_all<S: Alter, W: CountedWrite, N: Watch + Look>(
         → trees ≡ (state S.Store conn.new).committed.trees }
     // All that is written is flushed, and the writing ends early only where the writer failed. No
     // call is made again that failed, but for one that was interrupted.
-    ensures output { IsWrittenOut result.ending (record {
-      before = W.calls writer.old;
-      after = W.calls writer.new;
-    }) }
+    ensures output { IsWrittenOut result.ending
+        (writes_between (W.calls writer.old) (W.calls writer.new)) }
 {
     let applied = apply_all(alloc, conn, commands, numbers, rounding, watch);
     write_replies(&applied, numbers, writer)
@@ -117,10 +115,8 @@ pub fn write_replies<W: CountedWrite>(
         (W.contents writer.old) (W.contents writer.new) }
     // All that is written is flushed, and the writing ends early only where the writer failed. No
     // call is made again that failed, but for one that was interrupted.
-    ensures output { IsWrittenOut result.ending (record {
-      before = W.calls writer.old;
-      after = W.calls writer.new;
-    }) }
+    ensures output { IsWrittenOut result.ending
+        (writes_between (W.calls writer.old) (W.calls writer.new)) }
 {
     let verdicts = replied_to(applied, numbers.len());
     let so_far = write_each(writer, numbers, verdicts);
@@ -203,10 +199,8 @@ fn refusals(verdict: &Verdict) -> usize
 /// Writes what stands behind the replies, and flushes all. Returns how that ended.
 fn write_last<W: CountedWrite>(writer: &mut W, number: usize, ended: Ended) -> Ending
     ensures line { WritesLast number ended (W.contents writer.old) (W.contents writer.new) result }
-    ensures output { IsWrittenOut result (record {
-      before = W.calls writer.old;
-      after = W.calls writer.new;
-    }) }
+    ensures output { IsWrittenOut result
+        (writes_between (W.calls writer.old) (W.calls writer.new)) }
 {
     let printed = print_last(writer, number, ended);
     match flush_line(writer, printed) {
@@ -265,10 +259,7 @@ fn flush_line<W: CountedWrite>(
 ) -> Result<(), Ending>
     ensures line { FlushesLine printed (W.contents writer.old) (W.contents writer.new) result }
     ensures output { OnErr printed (HasFailed (W.calls writer.old))
-        → IsWrittenOutAs result (record {
-          before = W.calls writer.old;
-          after = W.calls writer.new;
-        }) }
+        → IsWrittenOutAs result (writes_between (W.calls writer.old) (W.calls writer.new)) }
 {
     match printed {
         Ok(()) => flushed(writer.flush_counted()),

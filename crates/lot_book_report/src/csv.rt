@@ -7,7 +7,7 @@ ghost use Rattle.lot_book_report.specs.Csv.{AreGood, AreRecordsOf, ShowsCsv, Sho
 ghost use Rattle.lot_book_report.specs.Fault.{HasCause};
 ghost use Rattle.lot_book_report.specs.Show.{ReadsBook};
 ghost use Rattle.lot_report.specs.Fed.{text_of};
-ghost use Rattle.lot_report.specs.Output.{HasFailed, NoneFailed};
+ghost use Rattle.lot_report.specs.Output.{HasFailed, NoneFailed, writes_between};
 ghost use Rattle.lot_report.specs.Written.{WritesEach};
 ghost use Rattle.lot_rows.specs.Tables.{Tables};
 ghost use Rattle.lot_store.specs.Walk.{HasGiven, HasGivenRows};
@@ -85,10 +85,7 @@ fn write_csv<S: Alter, P: Place, R: Records<P::Row>, W: CountedWrite>(
         × Appends (W.contents writer.old) (W.contents writer.new)
         (header.now ++ text_of told all)) }
     ensures reads { ReadsBook S.Store walk.old.book.now walk.new.book.now result }
-    ensures cause { HasCause result (record {
-      before = W.calls writer.old;
-      after = W.calls writer.new;
-    }) }
+    ensures cause { HasCause result (writes_between (W.calls writer.old) (W.calls writer.new)) }
 {
     let mut found = walk.next()?;
     print_texts(writer, &[header])?;

@@ -3,7 +3,7 @@ ghost use Rattle.std.specs.Prelude.{◌≡◌, ◌++◌, ℕ, Err, IfErr, IfOk, 
 ghost use Rattle.lot_book_report.specs.Dump.{HoldsOfPlacedBook, IsDigestOfTables, IsSomeDigest, ShowsBody, ShowsBodyOfTables, ShowsDump, ShowsDumpOfTables, ShowsSomeBody, ShowsSomeDump, digest_of, dump_head};
 ghost use Rattle.lot_book_report.specs.Fault.{HasCause};
 ghost use Rattle.lot_book_report.specs.Show.{HoldsOfTables, IsOfBook, ReadsBook};
-ghost use Rattle.lot_report.specs.Output.{HasFailed, NoneFailed};
+ghost use Rattle.lot_report.specs.Output.{HasFailed, NoneFailed, writes_between};
 ghost use Rattle.lot_report.specs.Written.{WritesLine};
 ghost use Rattle.lot_store.specs.Extent.{extent_of};
 ghost use Rattle.lot_stored.specs.Rows.{entry_rows};
@@ -38,10 +38,7 @@ pub fn show_dump<S: Alter, W: CountedWrite>(
         (λ tables. ShowsDumpOfTables tables
         (W.contents writer.old) (W.contents writer.new) result) }
     ensures reads { ReadsBook S.Store book.old book.new result }
-    ensures cause { HasCause result (record {
-      before = W.calls writer.old;
-      after = W.calls writer.new;
-    }) }
+    ensures cause { HasCause result (writes_between (W.calls writer.old) (W.calls writer.new)) }
 {
     let digest = write_body(book, writer)?;
     Ok(digest.print_behind("; end ", writer)?)
@@ -81,10 +78,8 @@ fn write_body<S: Alter, W: CountedWrite>(
         (λ tables. ShowsBodyOfTables tables
         (W.contents writer.old) (W.contents writer.new) result) }
     ensures reads { ReadsBook S.Store book.old book.new result }
-    ensures cause { IfErr result (λ fault. HasCause (Err fault) (record {
-      before = W.calls writer.old;
-      after = W.calls writer.new;
-    })) }
+    ensures cause { IfErr result
+        (λ fault. HasCause (Err fault) (writes_between (W.calls writer.old) (W.calls writer.new))) }
     ensures none_failed { OnOk result (NoneFailed (W.calls writer.old) (W.calls writer.new)) }
 {
     let extent = book.extent()?;

@@ -1,6 +1,7 @@
 ghost use Rattle.lot_book_report.specs.Fault.{HasCause};
 ghost use Rattle.lot_book_report.specs.Gains.{ShowsAllSales, ShowsGains, ShowsSomeGains};
 ghost use Rattle.lot_book_report.specs.Show.{HoldsOfBook, HoldsOfTables, ReadsBook};
+ghost use Rattle.lot_report.specs.Output.{writes_between};
 
 use crate::fault::ShowFault;
 use lot_base::Day;
@@ -30,10 +31,7 @@ pub fn show_gains<S: Alter, W: CountedWrite>(
         (λ tables.
         ShowsAllSales tables (first, last) (W.contents writer.old) (W.contents writer.new) result) }
     ensures reads { ReadsBook S.Store book.old book.new result }
-    ensures cause { HasCause result (record {
-      before = W.calls writer.old;
-      after = W.calls writer.new;
-    }) }
+    ensures cause { HasCause result (writes_between (W.calls writer.old) (W.calls writer.new)) }
 {
     let mut report = Gains::new(alloc);
     let mut walk = book.gains(first, last);

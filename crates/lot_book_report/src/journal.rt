@@ -2,6 +2,7 @@ ghost use Rattle.lot_stored.specs.Rows.{entry_rows};
 ghost use Rattle.lot_book_report.specs.Fault.{HasCause};
 ghost use Rattle.lot_book_report.specs.Journal.{HearsMore, ShowsAllEntries, ShowsAllHeard, ShowsHeard, ShowsJournal, ShowsSomeHeard, ShowsSomeJournal};
 ghost use Rattle.lot_book_report.specs.Show.{HoldsOfBook, HoldsOfTables, ReadsBook};
+ghost use Rattle.lot_report.specs.Output.{writes_between};
 
 use crate::fault::ShowFault;
 use crate::heard::{Hear, Nobody};
@@ -25,10 +26,7 @@ pub fn show_journal<S: Alter, W: CountedWrite>(
     ensures rows { HoldsOfTables S.Store book.old book.new
         (λ tables. ShowsAllEntries tables (W.contents writer.old) (W.contents writer.new) result) }
     ensures reads { ReadsBook S.Store book.old book.new result }
-    ensures cause { HasCause result (record {
-      before = W.calls writer.old;
-      after = W.calls writer.new;
-    }) }
+    ensures cause { HasCause result (writes_between (W.calls writer.old) (W.calls writer.new)) }
 {
     write_entries(book, &mut Nobody {}, writer)
 }
@@ -50,10 +48,7 @@ pub(crate) fn write_entries<S: Alter, H: Hear, W: CountedWrite>(
         (λ tables. ShowsAllHeard (HearsMore (H.has_heard heard.old) (H.has_heard heard.new))
         tables (W.contents writer.old) (W.contents writer.new) result) }
     ensures reads { ReadsBook S.Store book.old book.new result }
-    ensures cause { HasCause result (record {
-      before = W.calls writer.old;
-      after = W.calls writer.new;
-    }) }
+    ensures cause { HasCause result (writes_between (W.calls writer.old) (W.calls writer.new)) }
 {
     let mut journal = Journal::new();
     let mut walk = book.journal();

@@ -73,7 +73,8 @@ fn keep(
     price: PairPrice,
 ) -> Result<(), AllocError>
     ensures { OnOk result ((base quote : List ℕ) → rate_in rates.new base quote
-        ≡ if same_text base price.base && same_text quote price.quote then Some price.rate else rate_in rates.old base quote) }
+        ≡ if same_text base price.base && same_text quote price.quote then Some price.rate
+        else rate_in rates.old base quote) }
 {
     let PairPrice { base, quote, rate } = price;
     match rates.get_mut(&base) {

@@ -6,9 +6,9 @@ ghost use Rattle.std.specs.Prelude.{◌≡◌, ◌⊎◌, ◌≤◌, ℕ, List, 
 ghost use Rattle.std.specs.Io.KnownBytes.{Appends};
 ghost use Rattle.lot_stream.specs.Status.{IsStatus};
 ghost use Rattle.lot_check.specs.Answer.{IsOutcome, JudgingMayLackMemory, status_of_verdict};
-ghost use Rattle.lot_stream.specs.Input.{longest_input};
+ghost use Rattle.lot_stream.specs.Input.{longest_input, reads_between};
 ghost use Rattle.lot_check.specs.Way.{Answers, Concludes, JudgesKnown, Reaches, Replies, RunsCommands};
-ghost use Rattle.lot_report.specs.Output.{HasFailed, NoneFailed};
+ghost use Rattle.lot_report.specs.Output.{HasFailed, NoneFailed, writes_between};
 ghost use Rattle.lot_view.specs.View.{known_with_openings};
 
 mod report;
@@ -48,8 +48,8 @@ pub fn check<R: CountedRead, W: CountedWrite, N: Watch>(
     // the writer came to, where that is known.
     ensures answer { IfSome (R.remaining reader.old) (λ input. (written : List ℕ)
         × Appends (W.contents writer.old) (W.contents writer.new) written
-        × IsOutcome (record { before = R.calls reader.old; after = R.calls reader.new })
-        (record { before = W.calls writer.old; after = W.calls writer.new }) input written result) }
+        × IsOutcome (reads_between (R.calls reader.old) (R.calls reader.new))
+        (writes_between (W.calls writer.old) (W.calls writer.new)) input written result) }
 {
     let outcome = answer(alloc, reader, writer, watch);
     let concluded = conclude(writer, outcome);
@@ -64,8 +64,8 @@ fn answer<R: CountedRead, W: CountedWrite, N: Watch>(
     watch: &mut N,
 ) -> Result<Status, Fault>
     ensures answers { IfSome (R.remaining reader.old) (λ input.
-        Answers (record { before = R.calls reader.old; after = R.calls reader.new }) input
-        (record { before = W.calls writer.old; after = W.calls writer.new })
+        Answers (reads_between (R.calls reader.old) (R.calls reader.new)) input
+        (writes_between (W.calls writer.old) (W.calls writer.new))
         (W.contents writer.old) (W.contents writer.new) result) }
     ensures cause { IsErrOf result Fault.Write → HasFailed (W.calls writer.new) }
 {
@@ -84,7 +84,7 @@ fn answer_text<W: CountedWrite, N: Watch>(
 ) -> Result<Status, Fault>
     requires { length text.now ≤ longest_input }
     ensures reaches { Reaches text.now
-        (record { before = W.calls writer.old; after = W.calls writer.new })
+        (writes_between (W.calls writer.old) (W.calls writer.new))
         (W.contents writer.old) (W.contents writer.new) result }
     ensures cause { IsErrOf result Fault.Write → HasFailed (W.calls writer.new) }
 {
@@ -164,7 +164,8 @@ fn status_of_verdict(verdict: &Verdict) -> Status
 /// the command is accepted. So no refusal that stores nothing is lost.
 fn judge(alloc: Global, view: View, command: &Command) -> Result<(View, Verdict), AllocError>
     ensures judged { IfOk result (λ judged.
-        JudgesKnown (known_with_openings view) command.now judged.1 (known_with_openings judged.0)) }
+        JudgesKnown (known_with_openings view) command.now judged.1
+        (known_with_openings judged.0)) }
     ensures memory { OnErr result (JudgingMayLackMemory (known_with_openings view) command.now) }
 {
     match decide(alloc, Edition::Second, &view, command) {

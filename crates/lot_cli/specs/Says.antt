@@ -23,6 +23,9 @@ pub record Told : Type 0 where
   pub status : ℕ
   pub halt : Option Halt
 
+abbrev pub told : ℕ → Option Halt → Told
+told status halt = record { status = status; halt = halt }
+
 -- it ends with the line that says that all was done
 abbrev pub Succeeds : List ℕ → Option (List ℕ) → Option (List ℕ) → WritesMade → Told → Type 0
 Succeeds text before written calls told =

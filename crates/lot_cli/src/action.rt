@@ -4,6 +4,10 @@ ghost use Rattle.lot_cli.specs.Init.{Makes};
 ghost use Rattle.lot_cli.specs.Serve.{EndsWith, ReadsNothing, Serves};
 ghost use Rattle.sqlite.specs.Held.{state};
 ghost use Rattle.sqlite.specs.Tree.{Trees};
+ghost use Rattle.lot_stream.specs.Input.{reads_between};
+ghost use Rattle.lot_cli.specs.Says.{told};
+ghost use Rattle.lot_report.specs.Output.{writes_between};
+ghost use Rattle.lot_input.specs.Input.{reading_between};
 
 use crate::crumbs::check_with;
 use crate::halt::Halt;
@@ -78,17 +82,14 @@ pub fn serve<R: CountedRead, W: CountedWrite, P: Progress + Watch + Look + Aside
     requires outside { conn.in_transaction ≡ false }
     requires unlimited { conn.step_limit ≡ None }
     ensures serves { Serves action.now (record {
-      input = record {
-        bytes = R.remaining reader.old;
-        left = R.remaining reader.new;
-        calls = record { before = R.calls reader.old; after = R.calls reader.new };
-      };
+      input = reading_between (R.remaining reader.old) (R.remaining reader.new)
+          (reads_between (R.calls reader.old) (R.calls reader.new));
       old = state S.Store conn;
       new = state S.Store result.conn;
       before = W.contents writer.old;
       written = W.contents writer.new;
-      calls = record { before = W.calls writer.old; after = W.calls writer.new };
-      told = record { status = result.status; halt = result.halt };
+      calls = writes_between (W.calls writer.old) (W.calls writer.new);
+      told = told result.status result.halt;
     }) }
     // With the connection open a crash leaves the last commit, and nothing else.
     ensures safe { IsTrue (state S.Store result.conn).is_open → (trees : Trees)
@@ -154,10 +155,9 @@ fn init<W: CountedWrite, S: Alter>(alloc: Global, writer: &mut W, conn: Connecti
     requires outside { conn.in_transaction ≡ false }
     requires unlimited { conn.step_limit ≡ None }
     ensures makes { Makes (state S.Store conn) (state S.Store result.conn)
-        (W.contents writer.old) (W.contents writer.new) (record {
-          before = W.calls writer.old;
-          after = W.calls writer.new;
-        }) (record { status = result.status; halt = result.halt }) }
+        (W.contents writer.old) (W.contents writer.new)
+        (writes_between (W.calls writer.old) (W.calls writer.new))
+        (told result.status result.halt) }
     ensures status { IsStatus result.status }
 {
     match create(alloc, conn) {

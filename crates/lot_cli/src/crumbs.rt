@@ -9,11 +9,14 @@ ghost use Rattle.lot_cli.specs.Reports.{ShowsBook};
 ghost use Rattle.lot_cli.specs.Runs.{status_of_run};
 ghost use Rattle.lot_store.specs.declared.run.Ending.TheVariants.{Complete};
 ghost use Rattle.lot_cli.specs.declared.report.Report.TheVariants as report;
-ghost use Rattle.lot_input.specs.Input.{Gives, GivesNone};
+ghost use Rattle.lot_input.specs.Input.{Gives, GivesNone, reading_between};
 ghost use Rattle.lot_input.specs.Text.{IsFaultyText, TextMeans};
 ghost use Rattle.lot_store.specs.declared.book.Condition.TheVariants.{Ready};
 ghost use Rattle.sqlite.specs.Held.{state};
 ghost use Rattle.sqlite.specs.State.{HasCleanDisk, Survives};
+ghost use Rattle.lot_stream.specs.Input.{reads_between};
+ghost use Rattle.lot_cli.specs.Says.{told};
+ghost use Rattle.lot_report.specs.Output.{writes_between};
 
 use crate::action::Served;
 use crate::halt::Halt;
@@ -45,15 +48,12 @@ pub(crate) fn check_with<R: CountedRead, W: CountedWrite, N: Watch, S: Alter>(
 ) -> Served<S>
     requires outside { conn.in_transaction ≡ false }
     requires unlimited { conn.step_limit ≡ None }
-    ensures checks { Checks rounding.now (record {
-      bytes = R.remaining reader.old;
-      left = R.remaining reader.new;
-      calls = record { before = R.calls reader.old; after = R.calls reader.new };
-    }) (state S.Store conn) (state S.Store result.conn)
-        (W.contents writer.old) (W.contents writer.new) (record {
-          before = W.calls writer.old;
-          after = W.calls writer.new;
-        }) (record { status = result.status; halt = result.halt }) }
+    ensures checks { Checks rounding.now (reading_between (R.remaining reader.old)
+        (R.remaining reader.new) (reads_between (R.calls reader.old) (R.calls reader.new)))
+        (state S.Store conn) (state S.Store result.conn)
+        (W.contents writer.old) (W.contents writer.new)
+        (writes_between (W.calls writer.old) (W.calls writer.new))
+        (told result.status result.halt) }
     ensures status { IsStatus result.status }
 {
     match create(alloc, conn) {
@@ -82,15 +82,11 @@ fn check_on<R: CountedRead, W: CountedWrite, N: Watch, S: Alter>(
     requires ready { book.old.condition ≡ Ready }
     requires made { HasCleanDisk (state S.Store book.old.conn)
         → Stands (state S.Store book.old.conn) [] }
-    ensures checks { ChecksMade rounding.now (record {
-      bytes = R.remaining reader.old;
-      left = R.remaining reader.new;
-      calls = record { before = R.calls reader.old; after = R.calls reader.new };
-    }) (state S.Store book.new.conn)
-        (W.contents writer.old) (W.contents writer.new) (record {
-          before = W.calls writer.old;
-          after = W.calls writer.new;
-        }) (record { status = result.0; halt = result.1 }) }
+    ensures checks { ChecksMade rounding.now (reading_between (R.remaining reader.old)
+        (R.remaining reader.new) (reads_between (R.calls reader.old) (R.calls reader.new)))
+        (state S.Store book.new.conn)
+        (W.contents writer.old) (W.contents writer.new)
+        (writes_between (W.calls writer.old) (W.calls writer.new)) (told result.0 result.1) }
     ensures status { IsStatus result.0 }
 {
     match commands_of(alloc, reader) {
@@ -112,16 +108,11 @@ fn check_on<R: CountedRead, W: CountedWrite, N: Watch, S: Alter>(
 
 /// Reads all that a reader has as ledger text, and returns its commands, under the batch of checks.
 fn commands_of<R: CountedRead>(alloc: Global, reader: &mut R) -> Result<Numbered, InputFault>
-    ensures ok { IfOk result (λ keyed. Gives (TextMeans check_batch 1) (record {
-      bytes = R.remaining reader.old;
-      left = R.remaining reader.new;
-      calls = record { before = R.calls reader.old; after = R.calls reader.new };
-    }) (keyed.numbers.items, keyed.commands.items)) }
-    ensures err { IfErr result (GivesNone IsFaultyText (record {
-      bytes = R.remaining reader.old;
-      left = R.remaining reader.new;
-      calls = record { before = R.calls reader.old; after = R.calls reader.new };
-    })) }
+    ensures ok { IfOk result (λ keyed. Gives (TextMeans check_batch 1)
+        (reading_between (R.remaining reader.old) (R.remaining reader.new) (reads_between
+        (R.calls reader.old) (R.calls reader.new))) (keyed.numbers.items, keyed.commands.items)) }
+    ensures err { IfErr result (GivesNone IsFaultyText (reading_between (R.remaining reader.old)
+        (R.remaining reader.new) (reads_between (R.calls reader.old) (R.calls reader.new)))) }
 {
     match Batch::new(alloc, BATCH) {
         Ok(batch) => keyed_text(alloc, &batch, 1, reader),
@@ -140,10 +131,9 @@ fn show_behind<W: CountedWrite, S: Alter>(
     ensures behind { HasCleanDisk (state S.Store book.new.conn) → (entries : List Entry)
         → (end.ending ≡ Complete → Stands (state S.Store book.old.conn) entries)
         → ShowsBehind end.ending entries
-        (W.contents writer.old) (W.contents writer.new) (record {
-          before = W.calls writer.old;
-          after = W.calls writer.new;
-        }) (code_of (status_of_run end)) result }
+        (W.contents writer.old) (W.contents writer.new)
+        (writes_between (W.calls writer.old) (W.calls writer.new))
+        (code_of (status_of_run end)) result }
     ensures crash { Survives (state S.Store book.old.conn) (state S.Store book.new.conn) (λ _. ⊥) }
     ensures status { IsStatus result }
 {

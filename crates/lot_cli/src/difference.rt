@@ -3,6 +3,7 @@ ghost use Rattle.lot_stream.specs.Status.{IsStatus};
 ghost use Rattle.lot_stream.specs.declared.status.Status.TheVariants.{Stopped};
 ghost use Rattle.lot_cli.specs.Differ.{EndsCompared, TellsDifferences, compare_line};
 ghost use Rattle.lot_cli.specs.Says.{Says};
+ghost use Rattle.lot_report.specs.Output.{writes_between};
 
 use crate::run::tell;
 use lot_compare::{CompareFault, compare};
@@ -25,10 +26,8 @@ pub fn tell_differences<S: Alter, T: Alter, W: CountedWrite>(
     writer: &mut W,
 ) -> u8
     ensures differ { TellsDifferences S.Store T.Store new.old new.new old.old old.new status
-        (W.contents writer.old) (W.contents writer.new) (record {
-          before = W.calls writer.old;
-          after = W.calls writer.new;
-        }) result }
+        (W.contents writer.old) (W.contents writer.new)
+        (writes_between (W.calls writer.old) (W.calls writer.new)) result }
     ensures status { IsStatus result }
 {
     let compared = compare(alloc, new, old, writer);
@@ -42,10 +41,8 @@ fn conclude<W: CountedWrite>(
     status: Status,
 ) -> u8
     ensures ends { EndsCompared compared status
-        (W.contents writer.old) (W.contents writer.new) (record {
-          before = W.calls writer.old;
-          after = W.calls writer.new;
-        }) result }
+        (W.contents writer.old) (W.contents writer.new)
+        (writes_between (W.calls writer.old) (W.calls writer.new)) result }
     ensures status { IsStatus result }
 {
     match compared {
@@ -58,10 +55,8 @@ fn conclude<W: CountedWrite>(
 /// Reports why books aren't compared to the end, and returns the status of the program.
 fn stopped<W: CountedWrite>(writer: &mut W, fault: CompareFault) -> u8
     ensures says { Says (compare_line fault) Stopped
-        (W.contents writer.old) (W.contents writer.new) (record {
-          before = W.calls writer.old;
-          after = W.calls writer.new;
-        }) result }
+        (W.contents writer.old) (W.contents writer.new)
+        (writes_between (W.calls writer.old) (W.calls writer.new)) result }
     ensures status { IsStatus result }
 {
     let printed = print_texts(writer, &["fault ", fault.name(), "\n"]);

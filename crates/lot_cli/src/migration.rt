@@ -2,6 +2,8 @@ ghost use Rattle.std.specs.Prelude.{◌≡◌, None, false};
 ghost use Rattle.lot_stream.specs.Status.{IsStatus};
 ghost use Rattle.lot_cli.specs.Serve.{SaysMigrated};
 ghost use Rattle.sqlite.specs.Held.{state};
+ghost use Rattle.lot_cli.specs.Says.{told};
+ghost use Rattle.lot_report.specs.Output.{writes_between};
 
 use crate::action::Served;
 use crate::halt::Halt;
@@ -23,10 +25,9 @@ pub(crate) fn migrate<W: CountedWrite, P: Progress, S: Alter>(
     requires outside { conn.in_transaction ≡ false }
     requires unlimited { conn.step_limit ≡ None }
     ensures takes_over { SaysMigrated (state S.Store conn) (state S.Store result.conn)
-        (W.contents writer.old) (W.contents writer.new) (record {
-          before = W.calls writer.old;
-          after = W.calls writer.new;
-        }) (record { status = result.status; halt = result.halt }) }
+        (W.contents writer.old) (W.contents writer.new)
+        (writes_between (W.calls writer.old) (W.calls writer.new))
+        (told result.status result.halt) }
     ensures status { IsStatus result.status }
 {
     match lot_migrate::migrate(alloc, conn, progress) {

@@ -2,6 +2,10 @@ ghost use Rattle.std.specs.Prelude.{◌≡◌, ◌⊎◌, None, false, option_co
 ghost use Rattle.lot_stream.specs.Status.{IsStatus};
 ghost use Rattle.lot_cli.specs.Runs.{Posts, PostsRow, unfit};
 ghost use Rattle.sqlite.specs.Held.{state};
+ghost use Rattle.lot_stream.specs.Input.{reads_between};
+ghost use Rattle.lot_cli.specs.Says.{told};
+ghost use Rattle.lot_report.specs.Output.{writes_between};
+ghost use Rattle.lot_input.specs.Input.{reading_between};
 
 use crate::action::Served;
 use crate::halt::Halt;
@@ -33,15 +37,12 @@ pub(crate) fn post<R: CountedRead, W: CountedWrite, N: Watch + Look, S: Alter>(
     requires outside { conn.in_transaction ≡ false }
     requires unlimited { conn.step_limit ≡ None }
     ensures posts { Posts asked.now.batch asked.now.rounding asked.now.from asked.now.keeping
-        (record {
-          bytes = R.remaining reader.old;
-          left = R.remaining reader.new;
-          calls = record { before = R.calls reader.old; after = R.calls reader.new };
-        }) (state S.Store conn) (state S.Store result.conn)
-        (W.contents writer.old) (W.contents writer.new) (record {
-          before = W.calls writer.old;
-          after = W.calls writer.new;
-        }) (record { status = result.status; halt = result.halt }) }
+        (reading_between (R.remaining reader.old) (R.remaining reader.new)
+        (reads_between (R.calls reader.old) (R.calls reader.new))) (state S.Store conn)
+        (state S.Store result.conn)
+        (W.contents writer.old) (W.contents writer.new)
+        (writes_between (W.calls writer.old) (W.calls writer.new))
+        (told result.status result.halt) }
     ensures status { IsStatus result.status }
 {
     let first = asked.from.number() as usize;
@@ -79,15 +80,12 @@ pub(crate) fn post_row<R: CountedRead, W: CountedWrite, N: Watch + Look, S: Alte
 ) -> Served<S>
     requires outside { conn.in_transaction ≡ false }
     requires unlimited { conn.step_limit ≡ None }
-    ensures posts { PostsRow batch.now reference.now (option_copied rounding.entry) (record {
-      bytes = R.remaining reader.old;
-      left = R.remaining reader.new;
-      calls = record { before = R.calls reader.old; after = R.calls reader.new };
-    }) (state S.Store conn) (state S.Store result.conn)
-        (W.contents writer.old) (W.contents writer.new) (record {
-          before = W.calls writer.old;
-          after = W.calls writer.new;
-        }) (record { status = result.status; halt = result.halt }) }
+    ensures posts { PostsRow batch.now reference.now (option_copied rounding.entry)
+        (reading_between (R.remaining reader.old) (R.remaining reader.new) (reads_between
+        (R.calls reader.old) (R.calls reader.new))) (state S.Store conn) (state S.Store result.conn)
+        (W.contents writer.old) (W.contents writer.new)
+        (writes_between (W.calls writer.old) (W.calls writer.new))
+        (told result.status result.halt) }
     ensures status { IsStatus result.status ⊎ (result.status ≡ unfit) }
 {
     match keyed_row(alloc, batch, reference, reader) {

@@ -1,11 +1,11 @@
 //! Reports of the book that is there.
 ghost use Rattle.std.specs.Prelude.{◌≡◌, None, Option, false};
-ghost use Rattle.lot_report.specs.Output.{WriteCalls};
+ghost use Rattle.lot_report.specs.Output.{WriteCalls, writes_between};
 ghost use Rattle.lot_stream.specs.Status.{IsStatus};
 ghost use Rattle.lot_stream.specs.declared.status.Status.TheVariants.{Stopped};
 ghost use Rattle.lot_cli.specs.Reports.{Concludes, Reports, ShowsReport, ShowsAllRows, ShowsSome, report_line};
 ghost use Rattle.lot_cli.specs.Reports.{ShowsBook, ShowsDigest, ShowsDigestOfTables, ShowsSomeDigest};
-ghost use Rattle.lot_cli.specs.Says.{Says};
+ghost use Rattle.lot_cli.specs.Says.{Says, told};
 ghost use Rattle.lot_book_report.specs.Dump.{HoldsOfPlacedBook, digest_of};
 ghost use Rattle.lot_book_report.specs.Fault.{HasCause};
 ghost use Rattle.lot_book_report.specs.Show.{HoldsOfTables, ReadsBook};
@@ -61,10 +61,9 @@ pub(crate) fn write_report<W: CountedWrite, S: Alter>(
     requires outside { conn.in_transaction ≡ false }
     requires unlimited { conn.step_limit ≡ None }
     ensures reports { Reports report (state S.Store conn) (state S.Store result.conn)
-        (W.contents writer.old) (W.contents writer.new) (record {
-          before = W.calls writer.old;
-          after = W.calls writer.new;
-        }) (record { status = result.status; halt = result.halt }) }
+        (W.contents writer.old) (W.contents writer.new)
+        (writes_between (W.calls writer.old) (W.calls writer.new))
+        (told result.status result.halt) }
     ensures status { IsStatus result.status }
 {
     match adopt(alloc, conn) {
@@ -82,10 +81,8 @@ pub(crate) fn write_report_of<W: CountedWrite, S: Alter>(
 ) -> Served<S>
     requires ready { book.condition ≡ Ready }
     ensures shows { ShowsBook report (state S.Store book.conn) (state S.Store result.conn)
-        (W.contents writer.old) (W.contents writer.new) (record {
-          before = W.calls writer.old;
-          after = W.calls writer.new;
-        }) result.status }
+        (W.contents writer.old) (W.contents writer.new)
+        (writes_between (W.calls writer.old) (W.calls writer.new)) result.status }
     ensures goes_on { result.halt ≡ None }
     ensures status { IsStatus result.status }
 {
@@ -107,10 +104,8 @@ pub(crate) fn write_whole<W: CountedWrite, S: Alter>(
 ) -> u8
     requires ready { book.old.condition ≡ Ready }
     ensures shows { ShowsBook report (state S.Store book.old.conn) (state S.Store book.new.conn)
-        (W.contents writer.old) (W.contents writer.new) (record {
-          before = W.calls writer.old;
-          after = W.calls writer.new;
-        }) result }
+        (W.contents writer.old) (W.contents writer.new)
+        (writes_between (W.calls writer.old) (W.calls writer.new)) result }
     ensures status { IsStatus result }
 {
     let shown = show(alloc, report, book, writer);
@@ -131,10 +126,7 @@ fn show<W: CountedWrite, S: Alter>(
         (λ tables.
         ShowsAllRows report tables (W.contents writer.old) (W.contents writer.new) result) }
     ensures reads { ReadsBook S.Store book.old book.new result }
-    ensures cause { HasCause result (record {
-      before = W.calls writer.old;
-      after = W.calls writer.new;
-    }) }
+    ensures cause { HasCause result (writes_between (W.calls writer.old) (W.calls writer.new)) }
 {
     match report {
         Report::Holdings {
@@ -173,10 +165,7 @@ fn show_digest<W: CountedWrite, S: Alter>(
     ensures rows { HoldsOfTables S.Store book.old book.new (λ tables.
         ShowsDigestOfTables tables (W.contents writer.old) (W.contents writer.new) result) }
     ensures reads { ReadsBook S.Store book.old book.new result }
-    ensures cause { HasCause result (record {
-      before = W.calls writer.old;
-      after = W.calls writer.new;
-    }) }
+    ensures cause { HasCause result (writes_between (W.calls writer.old) (W.calls writer.new)) }
 {
     let digest = digest_book(book)?;
     Ok(digest.print_behind("book verified\n", writer)?)
@@ -188,10 +177,8 @@ fn conclude<W: CountedWrite>(writer: &mut W, shown: Result<(), ShowFault>) -> u8
     ensures concludes { (before : Option WriteCalls) → HasCause shown (record {
       before = before;
       after = W.calls writer.old;
-    }) → Concludes shown (W.contents writer.old) (W.contents writer.new) (record {
-      before = W.calls writer.old;
-      after = W.calls writer.new;
-    }) result }
+    }) → Concludes shown (W.contents writer.old) (W.contents writer.new) (writes_between
+        (W.calls writer.old) (W.calls writer.new)) result }
     ensures status { IsStatus result }
 {
     match shown {
@@ -204,10 +191,8 @@ fn conclude<W: CountedWrite>(writer: &mut W, shown: Result<(), ShowFault>) -> u8
 /// Reports why a report ends before its end, and returns the status of the program.
 fn stopped<W: CountedWrite>(writer: &mut W, fault: ShowFault) -> u8
     ensures says { Says (report_line fault) Stopped
-        (W.contents writer.old) (W.contents writer.new) (record {
-          before = W.calls writer.old;
-          after = W.calls writer.new;
-        }) result }
+        (W.contents writer.old) (W.contents writer.new)
+        (writes_between (W.calls writer.old) (W.calls writer.new)) result }
     ensures status { IsStatus result }
 {
     let printed = print_texts(writer, &["fault ", fault.name(), "\n"]);

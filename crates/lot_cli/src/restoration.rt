@@ -2,8 +2,11 @@
 ghost use Rattle.std.specs.Prelude.{◌≡◌, None, false};
 ghost use Rattle.lot_stream.specs.Status.{IsStatus};
 ghost use Rattle.lot_cli.specs.Restore.{EndsUnrestored, RestoresBook, answer_of, status_of_restored, terms_for};
-ghost use Rattle.lot_cli.specs.Says.{Says};
+ghost use Rattle.lot_cli.specs.Says.{Says, told};
 ghost use Rattle.sqlite.specs.Held.{state};
+ghost use Rattle.lot_stream.specs.Input.{reads_between};
+ghost use Rattle.lot_report.specs.Output.{writes_between};
+ghost use Rattle.lot_input.specs.Input.{reading_between};
 
 use crate::action::Served;
 use crate::halt::Halt;
@@ -27,15 +30,12 @@ pub(crate) fn restore<R: CountedRead, W: CountedWrite, S: Alter>(
 ) -> Served<S>
     requires outside { conn.in_transaction ≡ false }
     requires unlimited { conn.step_limit ≡ None }
-    ensures restores { RestoresBook (terms_for asked.now) (record {
-      bytes = R.remaining reader.old;
-      left = R.remaining reader.new;
-      calls = record { before = R.calls reader.old; after = R.calls reader.new };
-    }) (state S.Store conn) (state S.Store result.conn)
-        (W.contents writer.old) (W.contents writer.new) (record {
-          before = W.calls writer.old;
-          after = W.calls writer.new;
-        }) (record { status = result.status; halt = result.halt }) }
+    ensures restores { RestoresBook (terms_for asked.now) (reading_between (R.remaining reader.old)
+        (R.remaining reader.new) (reads_between (R.calls reader.old) (R.calls reader.new)))
+        (state S.Store conn) (state S.Store result.conn)
+        (W.contents writer.old) (W.contents writer.new)
+        (writes_between (W.calls writer.old) (W.calls writer.new))
+        (told result.status result.halt) }
     ensures status { IsStatus result.status }
 {
     let restoring = Restoring {
@@ -60,10 +60,9 @@ fn unrestored<W: CountedWrite, S: Alter>(
     conn: Connection<S>,
 ) -> Served<S>
     ensures ends { EndsUnrestored fault
-        (W.contents writer.old) (W.contents writer.new) (record {
-          before = W.calls writer.old;
-          after = W.calls writer.new;
-        }) (record { status = result.status; halt = result.halt }) }
+        (W.contents writer.old) (W.contents writer.new)
+        (writes_between (W.calls writer.old) (W.calls writer.new))
+        (told result.status result.halt) }
     ensures same { result.conn ≡ conn }
     ensures status { IsStatus result.status }
 {
@@ -82,10 +81,8 @@ fn unrestored<W: CountedWrite, S: Alter>(
 /// Answers what came of a dump that was read to its end, and flushes what is written of it. Returns the status of the program.
 fn answer<W: CountedWrite>(writer: &mut W, restored: Restored) -> u8
     ensures says { Says (answer_of restored) (status_of_restored restored)
-        (W.contents writer.old) (W.contents writer.new) (record {
-          before = W.calls writer.old;
-          after = W.calls writer.new;
-        }) result }
+        (W.contents writer.old) (W.contents writer.new)
+        (writes_between (W.calls writer.old) (W.calls writer.new)) result }
     ensures status { IsStatus result }
 {
     let printed = print_texts(writer, &[answer_of(restored)]);

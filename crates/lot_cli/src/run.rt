@@ -4,12 +4,13 @@ ghost use Rattle.std.specs.List.{range_with_len};
 ghost use Rattle.lot_input.specs.Keyed.{HaveNext};
 ghost use Rattle.lot_stream.specs.Status.{IsStatus, code_of};
 ghost use Rattle.lot_cli.specs.Runs.{FollowOneAnother, RunsEach, RunsOn, first_number, status_of_run};
-ghost use Rattle.lot_cli.specs.Says.{EndsWithLine, Halts};
+ghost use Rattle.lot_cli.specs.Says.{EndsWithLine, Halts, told};
 ghost use Rattle.lot_store.specs.declared.book.Condition.TheVariants.{Ready};
 ghost use Rattle.lot_store.specs.declared.run.RunEnd.{RunEnd};
 ghost use Rattle.std.specs.Io.KnownBytes.{Keeps};
 ghost use Rattle.sqlite.specs.Held.{state};
 ghost use Rattle.sqlite.specs.State.{HasCleanDisk};
+ghost use Rattle.lot_report.specs.Output.{writes_between};
 
 use crate::action::Served;
 use crate::halt::{Halt, print_halt};
@@ -41,10 +42,9 @@ pub(crate) fn run<W: CountedWrite, N: Watch + Look, S: Alter>(
     requires next { HaveNext numbers.now }
     ensures runs { RunsOn (option_copied rounding.entry) keeping numbers.now commands.now
         (state S.Store conn) (state S.Store result.conn)
-        (W.contents writer.old) (W.contents writer.new) (record {
-          before = W.calls writer.old;
-          after = W.calls writer.new;
-        }) (record { status = result.status; halt = result.halt }) }
+        (W.contents writer.old) (W.contents writer.new)
+        (writes_between (W.calls writer.old) (W.calls writer.new))
+        (told result.status result.halt) }
     ensures status { IsStatus result.status }
 {
     // Outside a transaction the tables are those of the last commit.
@@ -96,10 +96,9 @@ fn run_each<W: CountedWrite, N: Watch, S: Alter>(
     requires next { HaveNext numbers.now }
     ensures runs { (end : RunEnd) × RunsEach (option_copied rounding.entry) numbers.now commands.now
         (state S.Store book.old.conn) (state S.Store book.new.conn)
-        (W.contents writer.old) (W.contents writer.new) (record {
-          before = W.calls writer.old;
-          after = W.calls writer.new;
-        }) end × (result ≡ status_of_run end) }
+        (W.contents writer.old) (W.contents writer.new)
+        (writes_between (W.calls writer.old) (W.calls writer.new)) end
+        × (result ≡ status_of_run end) }
 {
     let from = first_number(numbers);
     if in_a_row(numbers, from) == numbers.len() {
@@ -127,10 +126,9 @@ fn run_stretches<W: CountedWrite, N: Watch, S: Alter>(
     requires apart { ¬ FollowOneAnother numbers.now }
     ensures runs { (end : RunEnd) × RunsEach (option_copied rounding.entry) numbers.now commands.now
         (state S.Store book.old.conn) (state S.Store book.new.conn)
-        (W.contents writer.old) (W.contents writer.new) (record {
-          before = W.calls writer.old;
-          after = W.calls writer.new;
-        }) end × (result ≡ status_of_run end) }
+        (W.contents writer.old) (W.contents writer.new)
+        (writes_between (W.calls writer.old) (W.calls writer.new)) end
+        × (result ≡ status_of_run end) }
 {
     let mut done = 0;
     let mut status = Status::Accepted;
@@ -194,10 +192,9 @@ pub(crate) fn halted<W: CountedWrite, S: Alter>(
     conn: Connection<S>,
 ) -> Served<S>
     ensures says { Halts halt
-        (W.contents writer.old) (W.contents writer.new) (record {
-          before = W.calls writer.old;
-          after = W.calls writer.new;
-        }) (record { status = result.status; halt = result.halt }) }
+        (W.contents writer.old) (W.contents writer.new)
+        (writes_between (W.calls writer.old) (W.calls writer.new))
+        (told result.status result.halt) }
     ensures same { result.conn ≡ conn }
     ensures status { IsStatus result.status }
 {
@@ -211,10 +208,8 @@ pub(crate) fn halted<W: CountedWrite, S: Alter>(
 /// Reports why an action ends before its first command, and returns the status of the program.
 pub fn say_halt<W: CountedWrite>(writer: &mut W, halt: Halt) -> u8
     ensures says { Halts halt
-        (W.contents writer.old) (W.contents writer.new) (record {
-          before = W.calls writer.old;
-          after = W.calls writer.new;
-        }) (record { status = result; halt = Some halt }) }
+        (W.contents writer.old) (W.contents writer.new)
+        (writes_between (W.calls writer.old) (W.calls writer.new)) (told result (Some halt)) }
     ensures status { IsStatus result }
 {
     let printed = print_halt(writer, halt);
@@ -229,10 +224,8 @@ pub(crate) fn tell<W: CountedWrite>(
     status: Status,
 ) -> u8
     ensures kept { Keeps (W.contents writer.old) (W.contents writer.new) }
-    ensures end { EndsWithLine printed status (record {
-      before = W.calls writer.old;
-      after = W.calls writer.new;
-    }) result }
+    ensures end { EndsWithLine printed status
+        (writes_between (W.calls writer.old) (W.calls writer.new)) result }
     ensures unasked { IsErr printed → writer.new ≡ writer.old }
     ensures status { IsStatus result }
 {

@@ -1,8 +1,11 @@
 ghost use Rattle.std.specs.Prelude.{IfErr, IfOk, None, Some};
 ghost use Rattle.std.specs.String.{string_bytes};
-ghost use Rattle.lot_input.specs.Input.{Gives};
+ghost use Rattle.lot_input.specs.Input.{Gives, reading_between};
 ghost use Rattle.lot_stream.specs.Status.{IsStatus};
 ghost use Rattle.lot_cli.specs.Shows.{ShownAs, ShowsExport, ShowsNone};
+ghost use Rattle.lot_stream.specs.Input.{reads_between};
+ghost use Rattle.lot_cli.specs.Says.{told};
+ghost use Rattle.lot_report.specs.Output.{writes_between};
 
 use crate::halt::Halt;
 use crate::run::{say_halt, tell};
@@ -31,14 +34,10 @@ pub fn show<R: CountedRead, W: CountedWrite>(
     reader: &mut R,
     writer: &mut W,
 ) -> Shown
-    ensures shows { ShowsExport profile.now (record {
-      bytes = R.remaining reader.old;
-      left = R.remaining reader.new;
-      calls = record { before = R.calls reader.old; after = R.calls reader.new };
-    }) (W.contents writer.old) (W.contents writer.new) (record {
-      before = W.calls writer.old;
-      after = W.calls writer.new;
-    }) (record { status = result.status; halt = result.halt }) }
+    ensures shows { ShowsExport profile.now (reading_between (R.remaining reader.old)
+        (R.remaining reader.new) (reads_between (R.calls reader.old) (R.calls reader.new)))
+        (W.contents writer.old) (W.contents writer.new) (writes_between (W.calls writer.old)
+        (W.calls writer.new)) (told result.status result.halt) }
     ensures status { IsStatus result.status }
 {
     match text_for(alloc, profile, reader) {
@@ -62,16 +61,11 @@ fn text_for<R: CountedRead>(
     profile: &Profile,
     reader: &mut R,
 ) -> Result<String, InputFault>
-    ensures ok { IfOk result (λ text. Gives (ShownAs profile.now) (record {
-      bytes = R.remaining reader.old;
-      left = R.remaining reader.new;
-      calls = record { before = R.calls reader.old; after = R.calls reader.new };
-    }) (string_bytes text)) }
-    ensures fault { IfErr result (ShowsNone profile.now (record {
-      bytes = R.remaining reader.old;
-      left = R.remaining reader.new;
-      calls = record { before = R.calls reader.old; after = R.calls reader.new };
-    })) }
+    ensures ok { IfOk result (λ text. Gives (ShownAs profile.now)
+        (reading_between (R.remaining reader.old) (R.remaining reader.new)
+        (reads_between (R.calls reader.old) (R.calls reader.new))) (string_bytes text)) }
+    ensures fault { IfErr result (ShowsNone profile.now (reading_between (R.remaining reader.old)
+        (R.remaining reader.new) (reads_between (R.calls reader.old) (R.calls reader.new)))) }
 {
     let Ok(batch) = Batch::new(alloc, "show") else {
         return Err(InputFault::Memory);

@@ -3,7 +3,7 @@ ghost use Rattle.lot_compare.specs.Books.{HoldsOfBoth, ReadsNew, ReadsOld, Shows
 ghost use Rattle.lot_compare.specs.Fault.{HasCause};
 ghost use Rattle.lot_compare.specs.Lines.{WritesLines, of_kind};
 ghost use Rattle.lot_compare.specs.Sums.{differing};
-ghost use Rattle.lot_report.specs.Output.{HasFailed, NoneFailed};
+ghost use Rattle.lot_report.specs.Output.{HasFailed, NoneFailed, writes_between};
 
 use crate::book::add_book;
 use crate::fault::CompareFault;
@@ -31,10 +31,7 @@ pub fn compare<S: Alter, T: Alter, W: CountedWrite>(
     ensures lines { ShowsSomeLines (W.contents writer.old) (W.contents writer.new) result }
     ensures reads_new { ReadsNew S.Store new.old new.new result }
     ensures reads_old { ReadsOld T.Store old.old old.new result }
-    ensures cause { HasCause result (record {
-      before = W.calls writer.old;
-      after = W.calls writer.new;
-    }) }
+    ensures cause { HasCause result (writes_between (W.calls writer.old) (W.calls writer.new)) }
 {
     let mut gains = Sums::new(alloc);
     let mut held = Sums::new(alloc);

@@ -1,6 +1,6 @@
 ghost use Rattle.std.specs.Prelude.{◌≡◌, ◌≢◌, ◌≤◌, ◌<◌, ◌+◌, ◌++◌, ◌↔◌, [], vec_len, length, IfErr, IfOk, IsErrOf, OnErr, OnOk};
 ghost use Rattle.std.specs.Io.KnownBytes.{Consumes, prepend_known};
-ghost use Rattle.lot_stream.specs.Input.{NoneFailed};
+ghost use Rattle.lot_stream.specs.Input.{NoneFailed, reads_between};
 ghost use Rattle.lot_token.specs.Line.{IsLine};
 ghost use Rattle.lot_dump.specs.Lines.{EndsFor, EndsLine, Fills, HasLongLine, Made, TakesAhead, longest_input_line, text_of};
 
@@ -116,9 +116,9 @@ impl LineReader {
         ensures too_long { IsErrOf result LineFault.TooLong
             → HasLongLine (prepend_known self.old (R.remaining reader.old)) }
         ensures calls { OnOk result
-            (NoneFailed (record { before = R.calls reader.old; after = R.calls reader.new })) }
+            (NoneFailed (reads_between (R.calls reader.old) (R.calls reader.new))) }
         ensures cause { IfErr result
-            (EndsFor (record { before = R.calls reader.old; after = R.calls reader.new })) }
+            (EndsFor (reads_between (R.calls reader.old) (R.calls reader.new))) }
     {
         line.clear();
         for _made in 0..CALLS {
@@ -162,9 +162,9 @@ impl LineReader {
         ensures bytes { Consumes (R.remaining reader.old) (R.remaining reader.new) self.new }
         ensures fills { Fills (R.remaining reader.new) self.new result }
         ensures calls { OnOk result
-            (Made (record { before = R.calls reader.old; after = R.calls reader.new }) 1 0) }
+            (Made (reads_between (R.calls reader.old) (R.calls reader.new)) 1 0) }
         ensures failed { OnErr result
-            (Made (record { before = R.calls reader.old; after = R.calls reader.new }) 1 1) }
+            (Made (reads_between (R.calls reader.old) (R.calls reader.new)) 1 1) }
     {
         self.start = 0;
         self.end = 0;

@@ -13,6 +13,10 @@ pub record Reading : Type 0 where
   pub left : Option (List ℕ)
   pub calls : CallsMade
 
+-- what is known of it by the bytes that it had before some calls, and by those that it has left after them
+abbrev pub reading_between : Option (List ℕ) → Option (List ℕ) → CallsMade → Reading
+reading_between before after calls = record { bytes = before; left = after; calls = calls }
+
 -- This input is all that a reader has, where its bytes are known. It is no longer than an input may be. The reader has none
 -- left, and no call of it failed before it was at its end.
 abbrev pub IsAllOf : Reading → List ℕ → Type 0

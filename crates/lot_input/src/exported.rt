@@ -1,8 +1,9 @@
 ghost use Rattle.std.specs.Prelude.{◌≡◌, IfErr, IfOk, length};
 ghost use Rattle.lot_export.specs.Export.{IsExport};
 ghost use Rattle.lot_input.specs.Exported.{IsFaultyExport};
-ghost use Rattle.lot_input.specs.Input.{Gives, GivesNone};
+ghost use Rattle.lot_input.specs.Input.{Gives, GivesNone, reading_between};
 ghost use Rattle.lot_input.specs.Keyed.{HaveNext, import_source};
+ghost use Rattle.lot_stream.specs.Input.{reads_between};
 
 use crate::fault::InputFault;
 use crate::keyed::source;
@@ -26,19 +27,14 @@ pub fn keyed_export<R: CountedRead>(
     reader: &mut R,
 ) -> Result<Export, InputFault>
     ensures ok { IfOk result (Gives (IsExport (import_source batch.now) profile.now except.now)
-        (record {
-          bytes = R.remaining reader.old;
-          left = R.remaining reader.new;
-          calls = record { before = R.calls reader.old; after = R.calls reader.new };
-        })) }
+        (reading_between (R.remaining reader.old) (R.remaining reader.new)
+        (reads_between (R.calls reader.old) (R.calls reader.new)))) }
     ensures as_many { IfOk result (λ export.
         length export.given.numbers.items ≡ length export.given.commands.items) }
     ensures next { IfOk result (λ export. HaveNext export.given.numbers.items) }
-    ensures err { IfErr result (GivesNone (IsFaultyExport profile.now except.now) (record {
-      bytes = R.remaining reader.old;
-      left = R.remaining reader.new;
-      calls = record { before = R.calls reader.old; after = R.calls reader.new };
-    })) }
+    ensures err { IfErr result
+        (GivesNone (IsFaultyExport profile.now except.now) (reading_between (R.remaining reader.old)
+        (R.remaining reader.new) (reads_between (R.calls reader.old) (R.calls reader.new)))) }
 {
     let Ok(source) = source(alloc, "import", batch) else {
         return Err(InputFault::Unasked);

@@ -1,7 +1,8 @@
 ghost use Rattle.std.specs.Prelude.{◌≡◌, ◌≤◌, IfErr, IfOk, length};
-ghost use Rattle.lot_input.specs.Input.{Gives, GivesNone};
+ghost use Rattle.lot_input.specs.Input.{Gives, GivesNone, reading_between};
 ghost use Rattle.lot_input.specs.Keyed.{HaveNext};
 ghost use Rattle.lot_input.specs.Rows.{FileMeans, HasRowsOf, IsFaultyFile};
+ghost use Rattle.lot_stream.specs.Input.{reads_between};
 
 use crate::fault::InputFault;
 use crate::keyed::source;
@@ -29,19 +30,16 @@ pub fn keyed_rows<R: CountedRead>(
 ) -> Result<Numbered, InputFault>
     requires { 1 ≤ from }
     ensures ok { IfOk result (λ keyed. Gives
-        (FileMeans batch.now accounts.now decimals from except.now) (record {
-          bytes = R.remaining reader.old;
-          left = R.remaining reader.new;
-          calls = record { before = R.calls reader.old; after = R.calls reader.new };
-        }) (keyed.numbers.items, keyed.commands.items)) }
+        (FileMeans batch.now accounts.now decimals from except.now)
+        (reading_between (R.remaining reader.old) (R.remaining reader.new)
+        (reads_between (R.calls reader.old) (R.calls reader.new)))
+        (keyed.numbers.items, keyed.commands.items)) }
     ensures as_many { IfOk result (λ keyed.
         length keyed.numbers.items ≡ length keyed.commands.items) }
     ensures next { IfOk result (λ keyed. HaveNext keyed.numbers.items) }
-    ensures err { IfErr result (GivesNone (IsFaultyFile decimals except.now) (record {
-      bytes = R.remaining reader.old;
-      left = R.remaining reader.new;
-      calls = record { before = R.calls reader.old; after = R.calls reader.new };
-    })) }
+    ensures err { IfErr result
+        (GivesNone (IsFaultyFile decimals except.now) (reading_between (R.remaining reader.old)
+        (R.remaining reader.new) (reads_between (R.calls reader.old) (R.calls reader.new)))) }
 {
     let Ok(source) = source(alloc, "import", batch) else {
         return Err(InputFault::Unasked);

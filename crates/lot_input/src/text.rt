@@ -1,7 +1,8 @@
 ghost use Rattle.std.specs.Prelude.{◌≡◌, ◌≤◌, IfErr, IfOk, length};
-ghost use Rattle.lot_input.specs.Input.{Gives, GivesNone};
+ghost use Rattle.lot_input.specs.Input.{Gives, GivesNone, reading_between};
 ghost use Rattle.lot_input.specs.Keyed.{HaveNext};
 ghost use Rattle.lot_input.specs.Text.{IsFaultyText, RowMeans, TextMeans, only};
+ghost use Rattle.lot_stream.specs.Input.{reads_between};
 
 use crate::fault::InputFault;
 use crate::keyed::{keyed, source};
@@ -25,19 +26,14 @@ pub fn keyed_text<R: CountedRead>(
     reader: &mut R,
 ) -> Result<Numbered, InputFault>
     requires { 1 ≤ from }
-    ensures ok { IfOk result (λ keyed. Gives (TextMeans batch.now from) (record {
-      bytes = R.remaining reader.old;
-      left = R.remaining reader.new;
-      calls = record { before = R.calls reader.old; after = R.calls reader.new };
-    }) (keyed.numbers.items, keyed.commands.items)) }
+    ensures ok { IfOk result (λ keyed. Gives (TextMeans batch.now from)
+        (reading_between (R.remaining reader.old) (R.remaining reader.new) (reads_between
+        (R.calls reader.old) (R.calls reader.new))) (keyed.numbers.items, keyed.commands.items)) }
     ensures as_many { IfOk result (λ keyed.
         length keyed.numbers.items ≡ length keyed.commands.items) }
     ensures next { IfOk result (λ keyed. HaveNext keyed.numbers.items) }
-    ensures err { IfErr result (GivesNone IsFaultyText (record {
-      bytes = R.remaining reader.old;
-      left = R.remaining reader.new;
-      calls = record { before = R.calls reader.old; after = R.calls reader.new };
-    })) }
+    ensures err { IfErr result (GivesNone IsFaultyText (reading_between (R.remaining reader.old)
+        (R.remaining reader.new) (reads_between (R.calls reader.old) (R.calls reader.new)))) }
 {
     let text = slurp(alloc, reader)?;
     let keyed = commands_in(alloc, batch, from, &text);
@@ -55,16 +51,11 @@ pub fn keyed_row<R: CountedRead>(
     reference: &Label,
     reader: &mut R,
 ) -> Result<Option<(Key, Asked)>, InputFault>
-    ensures ok { IfOk result (Gives (RowMeans batch.now reference.now) (record {
-      bytes = R.remaining reader.old;
-      left = R.remaining reader.new;
-      calls = record { before = R.calls reader.old; after = R.calls reader.new };
-    })) }
-    ensures err { IfErr result (GivesNone IsFaultyText (record {
-      bytes = R.remaining reader.old;
-      left = R.remaining reader.new;
-      calls = record { before = R.calls reader.old; after = R.calls reader.new };
-    })) }
+    ensures ok { IfOk result
+        (Gives (RowMeans batch.now reference.now) (reading_between (R.remaining reader.old)
+        (R.remaining reader.new) (reads_between (R.calls reader.old) (R.calls reader.new)))) }
+    ensures err { IfErr result (GivesNone IsFaultyText (reading_between (R.remaining reader.old)
+        (R.remaining reader.new) (reads_between (R.calls reader.old) (R.calls reader.new)))) }
 {
     let text = slurp(alloc, reader)?;
     let row = row_in(alloc, batch, reference, &text);

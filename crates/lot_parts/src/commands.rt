@@ -2,7 +2,7 @@
 ghost use Rattle.std.specs.Prelude.{◌≡◌, ◌∷◌, [], IfErr, IfOk, IfSome, List, ℕ, OnOk, Option, length};
 ghost use Rattle.std.specs.Io.KnownBytes.{prepend_known};
 ghost use Rattle.lot_read.specs.Text.{Reads};
-ghost use Rattle.lot_stream.specs.Input.{NoneFailed};
+ghost use Rattle.lot_stream.specs.Input.{NoneFailed, reads_between};
 ghost use Rattle.lot_parts.specs.Commands.{BeginsCommands, FaultAbove, FaultNext, GoesOn, HasCauseOf, IsFaultBelow, IsFaultIn, IsReadTo, Says, fault_below};
 ghost use Rattle.lot_parts.specs.Dump.{Front};
 ghost use Rattle.lot_parts.specs.Reading.{part_of};
@@ -73,9 +73,9 @@ impl DumpCommands {
             (R.remaining reader.new) begun.0 begun.1.dump) }
         ensures fault { IfErr result (FaultAbove (R.remaining reader.old)) }
         ensures calls { OnOk result
-            (NoneFailed (record { before = R.calls reader.old; after = R.calls reader.new })) }
+            (NoneFailed (reads_between (R.calls reader.old) (R.calls reader.new))) }
         ensures cause { IfErr result
-            (HasCauseOf (record { before = R.calls reader.old; after = R.calls reader.new })) }
+            (HasCauseOf (reads_between (R.calls reader.old) (R.calls reader.new))) }
     {
         let mut text = Vec::new(alloc);
         let (head, dump) = DumpReader::begin(alloc, reader, &mut text)?;
@@ -101,9 +101,9 @@ impl DumpCommands {
         ensures fault { IfErr result
             (FaultNext (prepend_known self.old.dump.ahead (R.remaining reader.old)) self.old.dump) }
         ensures calls { OnOk result
-            (NoneFailed (record { before = R.calls reader.old; after = R.calls reader.new })) }
+            (NoneFailed (reads_between (R.calls reader.old) (R.calls reader.new))) }
         ensures cause { IfErr result
-            (HasCauseOf (record { before = R.calls reader.old; after = R.calls reader.new })) }
+            (HasCauseOf (reads_between (R.calls reader.old) (R.calls reader.new))) }
     {
         let at = self.dump.line();
         match self.dump.next(alloc, reader, &mut self.text)? {

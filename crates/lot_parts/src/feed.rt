@@ -3,7 +3,7 @@ ghost use Rattle.lot_stream.specs.Calls.{counted};
 ghost use Rattle.std.specs.Io.KnownBytes.{Consumes, IsAtEnd, prepend_known};
 ghost use Rattle.lot_token.specs.Line.{IsLine};
 ghost use Rattle.lot_report.specs.Printed.{line};
-ghost use Rattle.lot_stream.specs.Input.{NoneFailed};
+ghost use Rattle.lot_stream.specs.Input.{NoneFailed, reads_between};
 ghost use Rattle.lot_dump.specs.Form.{IsEnd, IsHead, end_text, head_text};
 ghost use Rattle.lot_parts.specs.Dump.{IsLedger, IsText};
 ghost use Rattle.lot_parts.specs.Fault.{HasCause, SaysNoDump};
@@ -54,11 +54,11 @@ impl Feed {
         ensures newer { IsErrOf result DumpFault.NewerFormat
             → IfSome (prepend_known self.old.lines (R.remaining reader.old)) BeginsNewer }
         ensures calls { OnOk result
-            (NoneFailed (record { before = R.calls reader.old; after = R.calls reader.new })) }
+            (NoneFailed (reads_between (R.calls reader.old) (R.calls reader.new))) }
         ensures too_long { IsErrOf result DumpFault.TooLong
             → IfSome (prepend_known self.old.lines (R.remaining reader.old)) HasLong }
         ensures cause { IfErr result
-            (HasCause (record { before = R.calls reader.old; after = R.calls reader.new })) }
+            (HasCause (reads_between (R.calls reader.old) (R.calls reader.new))) }
     {
         self.read_line(reader)?;
         Ok(read_head(&self.line)?)
@@ -84,11 +84,11 @@ impl Feed {
             (IsEndlessAt (self.old.count + 1) number))) }
         ensures newer { IsErrOf result DumpFault.NewerFormat → ⊥ }
         ensures calls { OnOk result
-            (NoneFailed (record { before = R.calls reader.old; after = R.calls reader.new })) }
+            (NoneFailed (reads_between (R.calls reader.old) (R.calls reader.new))) }
         ensures too_long { IsErrOf result DumpFault.TooLong
             → IfSome (prepend_known self.old.lines (R.remaining reader.old)) HasLong }
         ensures cause { IfErr result
-            (HasCause (record { before = R.calls reader.old; after = R.calls reader.new })) }
+            (HasCause (reads_between (R.calls reader.old) (R.calls reader.new))) }
     {
         text.clear();
         self.line.clear();
@@ -112,11 +112,11 @@ impl Feed {
             (prepend_known self.old.lines (R.remaining reader.old)))) }
         ensures newer { IsErrOf result DumpFault.NewerFormat → ⊥ }
         ensures calls { OnOk result
-            (NoneFailed (record { before = R.calls reader.old; after = R.calls reader.new })) }
+            (NoneFailed (reads_between (R.calls reader.old) (R.calls reader.new))) }
         ensures too_long { IsErrOf result DumpFault.TooLong
             → IfSome (prepend_known self.old.lines (R.remaining reader.old)) HasLong }
         ensures cause { IfErr result
-            (HasCause (record { before = R.calls reader.old; after = R.calls reader.new })) }
+            (HasCause (reads_between (R.calls reader.old) (R.calls reader.new))) }
     {
         let Some(end) = read_end(&self.line) else {
             return Err(DumpFault::NotADump { line: self.count });
@@ -140,11 +140,11 @@ impl Feed {
             × IfSome (prepend_known self.old.lines (R.remaining reader.old)) IsLine)) }
         ensures newer { IsErrOf result DumpFault.NewerFormat → ⊥ }
         ensures calls { OnOk result
-            (NoneFailed (record { before = R.calls reader.old; after = R.calls reader.new })) }
+            (NoneFailed (reads_between (R.calls reader.old) (R.calls reader.new))) }
         ensures too_long { IsErrOf result DumpFault.TooLong
             → IfSome (prepend_known self.old.lines (R.remaining reader.old)) HasLong }
         ensures cause { IfErr result
-            (HasCause (record { before = R.calls reader.old; after = R.calls reader.new })) }
+            (HasCause (reads_between (R.calls reader.old) (R.calls reader.new))) }
     {
         self.count = self.count.saturating_add(1);
         match self.lines.next_line(reader, &mut self.line)? {

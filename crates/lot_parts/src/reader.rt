@@ -1,7 +1,7 @@
 ghost use Rattle.std.specs.Prelude.{◌≡◌, IfErr, IfOk, IfSome, IsErrOf, OnOk};
 ghost use Rattle.std.specs.Io.KnownBytes.{prepend_known};
 ghost use Rattle.lot_report.specs.Printed.{line};
-ghost use Rattle.lot_stream.specs.Input.{NoneFailed};
+ghost use Rattle.lot_stream.specs.Input.{NoneFailed, reads_between};
 ghost use Rattle.lot_parts.specs.Fault.{HasCause, SaysNoDump};
 ghost use Rattle.lot_parts.specs.Reading.{Begins, BeginsNewer, HasLong, Hears, IsNoDumpAt, IsNoRestAt, SaysNext, Takes};
 
@@ -60,11 +60,11 @@ impl DumpReader {
         ensures newer { IsErrOf result DumpFault.NewerFormat
             → IfSome (R.remaining reader.old) BeginsNewer }
         ensures calls { OnOk result
-            (NoneFailed (record { before = R.calls reader.old; after = R.calls reader.new })) }
+            (NoneFailed (reads_between (R.calls reader.old) (R.calls reader.new))) }
         ensures too_long { IsErrOf result DumpFault.TooLong
             → IfSome (R.remaining reader.old) HasLong }
         ensures cause { IfErr result
-            (HasCause (record { before = R.calls reader.old; after = R.calls reader.new })) }
+            (HasCause (reads_between (R.calls reader.old) (R.calls reader.new))) }
     {
         let mut feed = Feed::new(alloc)?;
         let mut hasher = Sha256::new();
@@ -108,11 +108,11 @@ impl DumpReader {
             (IsNoRestAt self.old.last self.old.line number))) }
         ensures newer { IsErrOf result DumpFault.NewerFormat → ⊥ }
         ensures calls { OnOk result
-            (NoneFailed (record { before = R.calls reader.old; after = R.calls reader.new })) }
+            (NoneFailed (reads_between (R.calls reader.old) (R.calls reader.new))) }
         ensures too_long { IsErrOf result DumpFault.TooLong
             → IfSome (prepend_known self.old.ahead (R.remaining reader.old)) HasLong }
         ensures cause { IfErr result
-            (HasCause (record { before = R.calls reader.old; after = R.calls reader.new })) }
+            (HasCause (reads_between (R.calls reader.old) (R.calls reader.new))) }
     {
         match read_heading(alloc, &self.feed.line)? {
             Some(heading) if heading.number < self.last => Err(DumpFault::NotADump {

@@ -70,6 +70,10 @@ pub record WritesMade : Type 0 where
   pub before : Option WriteCalls
   pub after : Option WriteCalls
 
+-- the calls between the two
+abbrev pub writes_between : Option WriteCalls → Option WriteCalls → WritesMade
+writes_between before after = record { before = before; after = after }
+
 -- nothing was taken since the last flush that succeeded
 abbrev pub IsFlushed : Option WriteCalls → Type 0
 IsFlushed None = ⊤

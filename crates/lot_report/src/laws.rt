@@ -12,5 +12,6 @@ pub fn a_total_gain_is_proceeds_less_costs()
     ensures { (sales : List SaleParts) (totals : List (List ℕ × ℤ)) (currency : List ℕ)
         → AreSums (amounts_of sales) totals
         → total_in totals currency
-        ≡ (if list_any (is_priced_in currency) sales then Some (proceeds_in sales currency -ℤ costs_in sales currency) else None) }
+        ≡ (if list_any (is_priced_in currency) sales then Some
+        (proceeds_in sales currency -ℤ costs_in sales currency) else None) }
 {}

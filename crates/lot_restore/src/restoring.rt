@@ -12,6 +12,7 @@ ghost use Rattle.lot_table.specs.Shape.{schema_of};
 ghost use Rattle.lot_store.specs.Step.{LeavesTables};
 ghost use Rattle.sqlite.specs.Held.{state};
 ghost use Rattle.sqlite.specs.State.{HasCleanDisk, IsLive, KeepsCommit, Survives};
+ghost use Rattle.lot_stream.specs.Input.{reads_between};
 
 use crate::fault::RestoreFault;
 use crate::restoration::{Refused, Restoration};
@@ -84,7 +85,7 @@ pub fn restore<S: Alter, R: CountedRead, W: CountedWrite>(
     ensures fails { IfErr result (Fails (terms_of asked.now) (R.remaining reader.old)
         (state S.Store conn.old) (state S.Store conn.new) (W.calls writer.new)) }
     ensures read { ReadsIn result
-        (record { before = R.calls reader.old; after = R.calls reader.new }) }
+        (reads_between (R.calls reader.old) (R.calls reader.new)) }
     ensures said { OnErr result (SaysSome asked.now.without.now (R.remaining reader.old)
         (W.contents writer.old) (W.contents writer.new) (state S.Store conn.new)) }
     ensures none_failed { OnOk result (NoneFailed (W.calls writer.old) (W.calls writer.new)) }
@@ -157,7 +158,7 @@ fn judge_whole<S: Alter, R: CountedRead, W: CountedWrite>(
     ensures fails { IfErr result (FailsInside (terms_of asked.now) (R.remaining reader.old)
         (state S.Store tx.old.conn.now) (state S.Store tx.new.conn.now) (W.calls writer.new)) }
     ensures read { ReadsIn result
-        (record { before = R.calls reader.old; after = R.calls reader.new }) }
+        (reads_between (R.calls reader.old) (R.calls reader.new)) }
     ensures said { OnErr result (SaysSome asked.now.without.now (R.remaining reader.old)
         (W.contents writer.old) (W.contents writer.new)
         (state S.Store tx.new.conn.now)) }
@@ -234,7 +235,7 @@ fn judge_all<S: Alter, R: CountedRead, W: CountedWrite>(
     ensures crash { Survives (state S.Store tx.old.conn.now) (state S.Store tx.new.conn.now)
         (λ _. ⊥) }
     ensures read { ReadsIn result
-        (record { before = R.calls reader.old; after = R.calls reader.new }) }
+        (reads_between (R.calls reader.old) (R.calls reader.new)) }
     ensures said { OnErr result (SaysSomeBehind
         (record {
           known = R.remaining reader.old;

@@ -48,7 +48,8 @@ pub fn delete<S: Alter>(tx: &mut Transaction<'_, S>, entries: u32) -> Result<(),
     requires { HasCleanDisk (state S.Store tx.old.conn.now)
         → IsTrue (state S.Store tx.old.conn.now).in_transaction }
     ensures same_reference { tx.new.conn.ghost_name ≡ tx.old.conn.ghost_name }
-    ensures deletes { Deletes layout migration_table (migration_cells (record { entries = entries }))
+    ensures deletes { Deletes layout migration_table
+        (migration_cells (record { entries = entries }))
         (state S.Store tx.old.conn.now) (state S.Store tx.new.conn.now) result }
 {
     change(tx, migration_text!(delete), &[entries.to_cell()])

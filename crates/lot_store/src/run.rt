@@ -1,7 +1,7 @@
 ghost use Rattle.std.specs.Prelude.{◌≡◌, ◌≢◌, ◌+◌, ◌<◌, ◌^◌, [], ◌∷◌, length, IsOk, IsTrue, OnErr, option_copied};
 ghost use Rattle.lot_load.specs.Kept.{IsOf};
 ghost use Rattle.lot_report.specs.Printed.{reply};
-ghost use Rattle.lot_report.specs.Output.{HasFailed, IsFlushed};
+ghost use Rattle.lot_report.specs.Output.{HasFailed, IsFlushed, writes_between};
 ghost use Rattle.lot_store.specs.Run.{FlushesLine, IsWrittenOut, IsWrittenOutAs, RepliesTo, StopsAtOnce, StopsWith, WritesOut, count_refused, flush_outcome, told};
 ghost use Rattle.lot_store.specs.Turned.{RunsTurned};
 ghost use Rattle.lot_store.specs.declared.run.Ending.TheVariants.{Stopped};
@@ -78,10 +78,8 @@ impl<S: Alter> Book<S> {
             → result.ending ≢ Stopped StoreFault.NeedsReopen }
         // Each line is flushed as it is written, and the output stops a run only where the writer failed. No call is made
         // again that failed, but for one that was interrupted.
-        ensures output { IsFlushed (W.calls writer.old) → IsWrittenOut result.ending (record {
-          before = W.calls writer.old;
-          after = W.calls writer.new;
-        }) }
+        ensures output { IsFlushed (W.calls writer.old) → IsWrittenOut result.ending
+            (writes_between (W.calls writer.old) (W.calls writer.new)) }
     {
         if let Err(fault) = self.ready() {
             return RunEnd {
@@ -154,10 +152,8 @@ impl<S: Alter> Book<S> {
             → (state S.Store self.new.conn).may_leave trees
             → trees ≡ (state S.Store self.new.conn).committed.trees }
         ensures ready { IsOk result → self.new.condition ≡ Condition.Ready }
-        ensures output { IsWrittenOutAs result (record {
-          before = W.calls writer.old;
-          after = W.calls writer.new;
-        }) }
+        ensures output { IsWrittenOutAs result
+            (writes_between (W.calls writer.old) (W.calls writer.new)) }
     {
         match told(self.apply_with(kept, key, command)) {
             Ok(verdict) => {
@@ -199,10 +195,8 @@ fn write_reply<W: CountedWrite>(
 ) -> Result<(), Ending>
     ensures line { WritesOut (W.contents writer.old) (W.contents writer.new)
         (reply number verdict.now) result }
-    ensures output { IsWrittenOutAs result (record {
-      before = W.calls writer.old;
-      after = W.calls writer.new;
-    }) }
+    ensures output { IsWrittenOutAs result
+        (writes_between (W.calls writer.old) (W.calls writer.new)) }
 {
     let printed = print_reply(writer, number, verdict);
     flush_line(writer, printed)
@@ -211,10 +205,8 @@ fn write_reply<W: CountedWrite>(
 /// Writes the line of the fault at which a run stops out, and returns how it ended.
 fn stop<W: CountedWrite>(writer: &mut W, number: usize, fault: StoreFault) -> Ending
     ensures line { StopsWith number fault (W.contents writer.old) (W.contents writer.new) result }
-    ensures output { IsWrittenOut result (record {
-      before = W.calls writer.old;
-      after = W.calls writer.new;
-    }) }
+    ensures output { IsWrittenOut result
+        (writes_between (W.calls writer.old) (W.calls writer.new)) }
 {
     let mut digits = Buffer::new();
     let texts = [digits.format(number), " fault ", fault.name(), "\n"];
@@ -232,10 +224,7 @@ fn flush_line<W: CountedWrite>(
 ) -> Result<(), Ending>
     ensures line { FlushesLine printed (W.contents writer.old) (W.contents writer.new) result }
     ensures output { OnErr printed (HasFailed (W.calls writer.old))
-        → IsWrittenOutAs result (record {
-          before = W.calls writer.old;
-          after = W.calls writer.new;
-        }) }
+        → IsWrittenOutAs result (writes_between (W.calls writer.old) (W.calls writer.new)) }
 {
     match printed {
         Ok(()) => flushed(writer.flush_counted()),

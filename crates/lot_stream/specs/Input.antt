@@ -52,6 +52,10 @@ pub record CallsMade : Type 0 where
   pub before : Option Calls
   pub after : Option Calls
 
+-- the calls between the two
+abbrev pub reads_between : Option Calls → Option Calls → CallsMade
+reads_between before after = record { before = before; after = after }
+
 -- The cause of a fault, which comes before a call met the end. The reader can't be read: a call failed, the last one, or as
 -- many were made as may be; and no more bytes came than may. It is too long: more came, and no call failed. Memory ended:
 -- neither is so.

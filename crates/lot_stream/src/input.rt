@@ -1,7 +1,7 @@
 ghost use Rattle.std.specs.Prelude.{◌≡◌, ◌≢◌, ◌<◌, ◌≤◌, ◌+◌, ◌++◌, ◌↔◌, ℕ, List, length, vec_len, IfOk, IfErr, IfSome, OnOk, IsErrOf};
 ghost use Rattle.std.specs.Io.{ReadsAtMost};
 ghost use Rattle.std.specs.Io.KnownBytes.{Consumes, IsAtEnd};
-ghost use Rattle.lot_stream.specs.Input.{EndsFor, EndsWell, TakesIn, TookBefore, chunk_size, longest_input};
+ghost use Rattle.lot_stream.specs.Input.{EndsFor, EndsWell, TakesIn, TookBefore, chunk_size, longest_input, reads_between};
 
 use crate::calls::CountedRead;
 use std::alloc::{AllocError, Global};
@@ -67,9 +67,9 @@ pub fn slurp<R: CountedRead>(alloc: Global, reader: &mut R) -> Result<Vec<u8>, S
 
     // Where it is known what the reader's calls came to: none failed where all was read, and each fault has its cause in them.
     ensures calls { IfOk result (λ bytes.
-        EndsWell (record { before = R.calls reader.old; after = R.calls reader.new }) (vec_len bytes)) }
+        EndsWell (reads_between (R.calls reader.old) (R.calls reader.new)) (vec_len bytes)) }
     ensures cause { IfErr result
-        (EndsFor (record { before = R.calls reader.old; after = R.calls reader.new })) }
+        (EndsFor (reads_between (R.calls reader.old) (R.calls reader.new))) }
 {
     let mut bytes = Vec::new(alloc);
     let mut chunk = zeros(alloc, CHUNK)?;

@@ -1,6 +1,7 @@
 ghost use Rattle.std.specs.Prelude.{◌≡◌, IsErr};
 ghost use Rattle.std.specs.Io.KnownBytes.{Keeps};
 ghost use Rattle.lot_stream.specs.Status.{Ends, EndsIfFailed, IsStatus, after_flush, code_of, status_after};
+ghost use Rattle.lot_report.specs.Output.{writes_between};
 
 use lot_report::{CountedWrite, PrintFault};
 use std::io;
@@ -60,10 +61,8 @@ impl Status {
 pub fn finish<W: CountedWrite>(writer: &mut W, concluded: Result<Status, PrintFault>) -> Status
     ensures kept { Keeps (W.contents writer.old) (W.contents writer.new) }
     ensures end { Ends concluded (W.calls writer.new) result }
-    ensures none_failed { EndsIfFailed (record {
-      before = W.calls writer.old;
-      after = W.calls writer.new;
-    }) result }
+    ensures none_failed { EndsIfFailed
+        (writes_between (W.calls writer.old) (W.calls writer.new)) result }
     ensures unasked { IsErr concluded → writer.new ≡ writer.old }
 {
     match concluded {

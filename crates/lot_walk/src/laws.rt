@@ -57,7 +57,8 @@ pub fn what_was_bought_into_a_lot_was_sold_or_is_held()
         → BooksEntries migration [] entries booked → SalesOf migration entries sales
         → IsHoldings entries rows
         → left_of rows (lot_at account commodity lot)
-        ≡ bought_into booked (lot_at account commodity lot) +ℤ taken_of sales (lot_at account commodity lot) }
+        ≡ bought_into booked (lot_at account commodity lot) +ℤ taken_of sales
+        (lot_at account commodity lot) }
 {}
 
 /// A pair has at most one price at a day.

@@ -151,7 +151,8 @@ fn push_declaring(writes: &mut Vec<Write>, declaring: &Declaring) -> Result<(), 
 
 fn push_quoting(writes: &mut Vec<Write>, quoting: &Quoting) -> Result<(), AllocError>
     ensures { OnOk result (writes.new.items ≡ writes.old.items
-        ++ write.Price (price_row quoting.now.base quoting.now.quote quoting.now.day quoting.now.rate) ∷ []) }
+        ++ write.Price
+        (price_row quoting.now.base quoting.now.quote quoting.now.day quoting.now.rate) ∷ []) }
 {
     writes.push(Write::Price(PriceRow {
         base: quoting.base.copy()?,

@@ -176,7 +176,8 @@ fn push_opening_number(
     listed: Option<u64>,
 ) -> Result<(), Fault>
     ensures writes { OnOk result (writes.new.items ≡ writes.old.items
-        ++ opening_written position.now.account position.now.commodity position.now.lot units listed) }
+        ++ opening_written position.now.account position.now.commodity position.now.lot units
+        listed) }
     ensures fault { result ≢ Err Damaged }
     ensures device { result ≡ Err Device
         → IsSome position.now.lot × ¬ IfSome listed IsOpeningNumber }

@@ -2,6 +2,7 @@ ghost use Rattle.std.specs.Prelude.{ℕ, List};
 ghost use Rattle.lot_book_report.specs.Csv.{ShowsAllSalesCsv, ShowsGainsCsv, ShowsSomeGainsCsv, records_of_sale};
 ghost use Rattle.lot_book_report.specs.Fault.{HasCause};
 ghost use Rattle.lot_book_report.specs.Show.{HoldsOfBook, HoldsOfTables, ReadsBook};
+ghost use Rattle.lot_report.specs.Output.{writes_between};
 
 use super::{Records, write_csv};
 use crate::fault::ShowFault;
@@ -37,10 +38,7 @@ pub fn show_gains_csv<S: Alter, W: CountedWrite>(
         (λ tables. ShowsAllSalesCsv tables (first, last)
         (W.contents writer.old) (W.contents writer.new) result) }
     ensures reads { ReadsBook S.Store book.old book.new result }
-    ensures cause { HasCause result (record {
-      before = W.calls writer.old;
-      after = W.calls writer.new;
-    }) }
+    ensures cause { HasCause result (writes_between (W.calls writer.old) (W.calls writer.new)) }
 {
     let mut walk = book.gains(first, last);
     write_csv(alloc, gains_header(), &SaleRecords, &mut walk, writer)

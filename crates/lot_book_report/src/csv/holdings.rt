@@ -4,6 +4,7 @@ ghost use Rattle.lot_book_report.specs.Fault.{HasCause};
 ghost use Rattle.lot_book_report.specs.Holdings.{valued_with};
 ghost use Rattle.lot_book_report.specs.Show.{HoldsOfBook, HoldsOfTables, ReadsBook};
 ghost use Rattle.lot_csv.specs.Holdings.{holdings_header};
+ghost use Rattle.lot_report.specs.Output.{writes_between};
 
 use super::{Records, write_csv};
 use crate::fault::ShowFault;
@@ -41,10 +42,7 @@ pub fn show_holdings_csv<S: Alter, W: CountedWrite>(
         (λ tables. ShowsAllHoldingsCsv tables day
         (W.contents writer.old) (W.contents writer.new) result) }
     ensures reads { ReadsBook S.Store book.old book.new result }
-    ensures cause { HasCause result (record {
-      before = W.calls writer.old;
-      after = W.calls writer.new;
-    }) }
+    ensures cause { HasCause result (writes_between (W.calls writer.old) (W.calls writer.new)) }
 {
     match day {
         Some(day) => {
@@ -72,10 +70,7 @@ fn write_holdings_csv<S: Alter, W: CountedWrite>(
         (λ tables. ShowsAllCsvWith tables prices.now
         (W.contents writer.old) (W.contents writer.new) result) }
     ensures reads { ReadsBook S.Store book.old book.new result }
-    ensures cause { HasCause result (record {
-      before = W.calls writer.old;
-      after = W.calls writer.new;
-    }) }
+    ensures cause { HasCause result (writes_between (W.calls writer.old) (W.calls writer.new)) }
 {
     let records = HoldingRecords { prices };
     let mut walk = book.holdings();
