@@ -8,12 +8,7 @@
 #
 #   bench/all-or-none.sh          all of it: 100,000 single commits take some minutes
 #   bench/all-or-none.sh COUNT    of so many commands alone
-set -u -o pipefail
-
-cd "$(dirname "$(readlink -f "${BASH_SOURCE[0]}")")" || exit 1
-. lib/books.sh
-. lib/counts.sh
-. lib/runs.sh
+source "$(dirname "$(readlink -f "${BASH_SOURCE[0]}")")/lib/runs.sh"
 
 # trades COUNT: purchases of so many commands in turn with sales, of commodities that lie far apart; the first three open accounts.
 trades() {
@@ -35,22 +30,14 @@ fresh() {
     "$program" init --book "$scratch/b.book" </dev/null >/dev/null || exit 1
 }
 
-# all_accepted COUNT: each of so many commands was accepted by the last call.
-all_accepted() {
-    if [[ $(grep -c ' accepted$' "$scratch/out") != "$1" ]]; then
-        echo "bench/all-or-none.sh: $(grep -m 1 -v ' accepted$' "$scratch/out" || wc -l <"$scratch/out")" >&2
-        exit 1
-    fi
-}
-
 # taken TURNS COUNT WORDS..: the milliseconds of a post of the text to a new book, with these words, the least of so many.
 taken() {
     local turn
     for ((turn = 0; turn < $1; turn++)); do
         fresh
-        millis post --book "$scratch/b.book" --batch measured "${@:3}" <"$scratch/text" || echo failed
-        all_accepted "$2" || exit 1
-    done | sort -n | head -n 1
+        millis "$scratch/text" post --book "$scratch/b.book" --batch measured "${@:3}" || echo failed
+        accepted "$2"
+    done | lowest
 }
 
 # counted COUNT WORDS..: the instructions of one command of so many, without those of a call of none.
@@ -59,11 +46,9 @@ counted() {
     fresh
     none=$(count /dev/null post --book "$scratch/b.book" --batch measured "${@:2}")
     all=$(count "$scratch/text" post --book "$scratch/b.book" --batch measured "${@:2}")
-    all_accepted "$1" || exit 1
+    accepted "$1"
     apart "$all" "$none" "$1"
 }
-
-mib() { awk -v kib="$1" 'BEGIN { printf "%.1f", kib / 1024 }'; }
 
 if [[ $# == 0 || $1 == 10000 ]]; then
     trades 10000 >"$scratch/text"

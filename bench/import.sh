@@ -2,11 +2,7 @@
 # What an import of a broker file costs, row by row: reading alone, which is what a file costs whose last row is faulty, since none
 # of it is applied; and the whole, a commit for each row. What a file costs that has no rows, or whose first row is faulty, is
 # taken off. Of interest are the ratios, not the times of this machine.
-set -u -o pipefail
-
-cd "$(dirname "$(readlink -f "${BASH_SOURCE[0]}")")" || exit 1
-. lib/books.sh
-. lib/runs.sh
+source "$(dirname "$(readlink -f "${BASH_SOURCE[0]}")")/lib/runs.sh"
 
 header=ref,date,action,symbol,units,price,currency,fee,lot
 accounts=(--invest Assets:Broker --cash Assets:Cash --fees Expenses:Fees --gains Income:Gains)
@@ -21,20 +17,14 @@ rows() {
     }'
 }
 
-# micros TURNS RUNS FILE: the microseconds of an import of a file into a copy of the empty book, by the clock, as the mean of so
+# imported TURNS RUNS FILE: the microseconds of an import of a file into a copy of the empty book, by the clock, as the mean of so
 # many one after another, the least of some such. The output of the last one is kept.
-micros() {
-    local turn run begun ended
+imported() {
+    local turn
     for ((turn = 0; turn < $1; turn++)); do
-        cp "$scratch/empty.book" "$scratch/copy.book"
-        rm -f "$scratch/copy.book-wal"
-        begun=$(date +%s%N)
-        for ((run = 0; run < $2; run++)); do
-            "$program" import --book "$scratch/copy.book" --batch measured "${accounts[@]}" <"$3" >"$scratch/out"
-        done
-        ended=$(date +%s%N)
-        echo $(((ended - begun) / 1000 / $2))
-    done | sort -n | head -n 1
+        copied "$scratch/empty.book"
+        micros "$3" "$2" import --book "$scratch/copy.book" --batch measured "${accounts[@]}"
+    done | lowest
 }
 
 # answered PATTERN: each line that the last import printed is such a line.
@@ -48,7 +38,7 @@ answered() {
 printf '2020-01-01 open %s\n' 'Assets:Broker "FIFO"' Assets:Cash Expenses:Fees Income:Gains | made "$scratch/empty.book" || exit 1
 echo "$header" >"$scratch/none.csv"
 printf '%s\n' "$header" x >"$scratch/first.csv"
-none=$(micros 5 1 "$scratch/none.csv")
+none=$(imported 5 1 "$scratch/none.csv")
 
 printf '%9s %14s %7s %15s %14s %7s %15s\n' "" reading "" "" import "" ""
 printf '%9s %14s %7s %15s %14s %7s %15s %9s\n' rows 'us a row' ratio 'rows a second' 'us a row' ratio 'rows a second' share
@@ -57,10 +47,10 @@ for count in 1000 10000 100000; do
     { echo "$header" && rows "$count"; } >"$scratch/rows.csv"
     { head -n "$count" "$scratch/rows.csv" && echo x; } >"$scratch/faulty.csv"
     runs=$((100000 / count))
-    at_once=$(micros 5 "$runs" "$scratch/first.csv")
-    reading=$(micros 5 "$runs" "$scratch/faulty.csv")
+    at_once=$(imported 5 "$runs" "$scratch/first.csv")
+    reading=$(imported 5 "$runs" "$scratch/faulty.csv")
     answered "^fault row $count C2 BadRow Length$"
-    all=$(micros $((count < 100000 ? 3 : 1)) 1 "$scratch/rows.csv")
+    all=$(imported $((count < 100000 ? 3 : 1)) 1 "$scratch/rows.csv")
     answered ' accepted$'
     awk -v n="$count" -v read=$((reading - at_once)) -v all=$((all - none)) -v first_read="$first_read" -v first_all="$first_all" '
         function column(us, first) { printf " %14.2f %7.2f %15d", us, us / first, 1000000 / us }

@@ -3,10 +3,7 @@
 # purchases and half are sales, which take one to three lots each, of 50 commodities in two accounts of one method. In the first
 # table all that is bought is sold again, so what is held doesn't grow; in the second every third lot is kept, so it does. Of
 # interest are the ratios to a tenth of the commands, not the times of this machine.
-set -u -o pipefail
-
-cd "$(dirname "$(readlink -f "${BASH_SOURCE[0]}")")" || exit 1
-. lib/runs.sh
+source "$(dirname "$(readlink -f "${BASH_SOURCE[0]}")")/lib/runs.sh"
 
 # ledger METHOD KEPT COMMANDS: rounds of three purchases and three sales of one commodity in one account. KEPT is 1 where the
 # lot of the third purchase is to stay, else 0: then the second and the third are at one cost, on different days.
@@ -47,13 +44,9 @@ table() {
             ledger "$method" "$1" "$commands" >"$scratch/text"
             time=$(seconds "$scratch/text" $((100000 / commands)))
             room=$(peak "$scratch/text")
-            if grep -q -m 1 refused "$scratch/out"; then
-                echo "ledger.sh: a command was refused: $(grep -m 1 refused "$scratch/out")" >&2
-                exit 1
-            fi
-            awk -v m="$method" -v n="$commands" -v t="$time" -v r="$room" -v t1="$last_time" -v r1="$last_room" '
-                function ratio(a, b) { return b > 0 ? sprintf("%.2f", a / b) : "-" }
-                BEGIN { printf "%-8s %9d %10.3f %10.1f %12s %13s\n", m, n, t, r / 1024, ratio(t, t1), ratio(r, r1) }'
+            accepted
+            printf '%-8s %9d %10.3f %10s %12s %13s\n' "$method" "$commands" "$time" "$(mib "$room")" \
+                "$(ratio "$time" "$last_time")" "$(ratio "$room" "$last_room")"
             last_time=$time last_room=$room
         done
     done

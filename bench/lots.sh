@@ -2,10 +2,7 @@
 # How the time of purchases and sales grows with the lots of what they touch, without a file: the program on texts that differ in
 # these commands alone, as the difference of their processor times, which wants a quiet machine. Of interest are the ratios to the
 # smallest number of lots, not the microseconds of this one.
-set -u -o pipefail
-
-cd "$(dirname "$(readlink -f "${BASH_SOURCE[0]}")")" || exit 1
-. lib/runs.sh
+source "$(dirname "$(readlink -f "${BASH_SOURCE[0]}")")/lib/runs.sh"
 
 # purchases METHOD LOTS COMMODITIES: the accounts, and so many lots of each of so many commodities.
 purchases() {
@@ -39,10 +36,7 @@ difference() {
     local without with
     without=$(seconds "$scratch/without" "$1")
     with=$(seconds "$scratch/with" "$1")
-    if grep -q -m 1 refused "$scratch/out"; then
-        echo "lots.sh: a command was refused: $(grep -m 1 refused "$scratch/out")" >&2
-        exit 1
-    fi
+    accepted
     awk -v with="$with" -v without="$without" -v count="$2" 'BEGIN { print 1000000 * (with - without) / count }'
 }
 

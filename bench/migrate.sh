@@ -3,23 +3,16 @@
 # a day on which there was none. Time by the clock, and the most memory, each of the whole call, which opens the book. A third of the
 # entries is a lot that is held. Of interest are the ratios, not the times of this machine. The books are made by Python's module
 # `sqlite3` (tests/migrate/large.py).
-set -u -o pipefail
-
-cd "$(dirname "$(readlink -f "${BASH_SOURCE[0]}")")" || exit 1
-if [[ -d /dev/shm && -w /dev/shm ]]; then export TMPDIR=/dev/shm; fi
-. lib/books.sh
-. lib/runs.sh
-
-# fresh: a copy of the book of edition 1.
-fresh() { rm -f "$scratch/copy.book"* && cp "$scratch/first.book" "$scratch/copy.book"; }
+source "$(dirname "$(readlink -f "${BASH_SOURCE[0]}")")/lib/runs.sh"
+in_memory
 
 # turns WORDS..: the milliseconds of a call on a fresh copy, or on the one that is migrated; the least of three.
 turns() {
     local turn
     for turn in 1 2 3; do
-        if [[ $1 == migrate ]]; then fresh; fi
-        millis "$@" --book "$scratch/copy.book" </dev/null || echo "it failed: $1" >&2
-    done | sort -n | head -n 1
+        if [[ $1 == migrate ]]; then copied "$scratch/first.book"; fi
+        millis /dev/null "$@" --book "$scratch/copy.book" || echo "it failed: $1" >&2
+    done | lowest
 }
 
 nothing=(gains --first 9999-12-31)
@@ -28,7 +21,7 @@ printf '%9s %9s %12s %12s %9s %12s %12s %9s\n' entries MiB 'migrate ms' 'open ms
 for entries in 1000 10000 100000; do
     rm -f "$scratch/first.book"*
     python3 -B tests/migrate/large.py "$scratch/first.book" "$entries" || exit 1
-    fresh
+    copied "$scratch/first.book"
     room=$(peak /dev/null migrate --book "$scratch/copy.book")
     taken=$(turns migrate)
     if [[ $(<"$scratch/out") != "book migrated" ]]; then echo "it isn't migrated: $(head -n 1 "$scratch/out")" >&2 && exit 1; fi

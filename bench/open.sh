@@ -1,11 +1,7 @@
 #!/usr/bin/env bash
 # What it takes to open a book of some size, which each call does once: seconds by the clock, and the most memory. The first line
 # is an empty book. A program that posts many commands in one call opens the book once.
-set -u -o pipefail
-
-cd "$(dirname "$(readlink -f "${BASH_SOURCE[0]}")")" || exit 1
-. lib/books.sh
-. lib/runs.sh
+source "$(dirname "$(readlink -f "${BASH_SOURCE[0]}")")/lib/runs.sh"
 
 # purchases FIRST COUNT: so many purchases, one lot each.
 purchases() {

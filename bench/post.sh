@@ -4,11 +4,7 @@
 # rule by Python's module `sqlite3`, with the same pragmas and a commit for each command. Its figures hold the time of Python, and of
 # another SQLite than this program's. A call that posts nothing, which opens the book and closes it, is taken off. Of interest are the
 # ratios, not the milliseconds of this machine.
-set -u -o pipefail
-
-cd "$(dirname "$(readlink -f "${BASH_SOURCE[0]}")")" || exit 1
-. lib/books.sh
-. lib/runs.sh
+source "$(dirname "$(readlink -f "${BASH_SOURCE[0]}")")/lib/runs.sh"
 
 # ledger PAIRS COMMANDS DAY: the accounts where DAY is 1; then purchases of so many commodities in turn, from that day on.
 ledger() {

@@ -1,11 +1,7 @@
 #!/usr/bin/env bash
 # What an import by a profile costs beside one of a broker file in the program's own format: the same trades in both forms, all or
 # none. Showing a file by its profile, which opens no book, is measured too. Of interest are the ratios, not the times of this machine.
-set -u -o pipefail
-
-cd "$(dirname "$(readlink -f "${BASH_SOURCE[0]}")")" || exit 1
-. lib/books.sh
-. lib/runs.sh
+source "$(dirname "$(readlink -f "${BASH_SOURCE[0]}")")/lib/runs.sh"
 
 profile=examples/profile/maple.toml
 fixed=(--invest Assets:Maple --cash Assets:Maple:Cash --fees Expenses:Fees --gains Income:Gains)
@@ -28,15 +24,11 @@ trades() {
 
 # measured FILE WORDS..: the microseconds of an import of a file, by the clock, the least of three. Each has to be accepted.
 measured() {
-    local turn begun ended
+    local turn
     for turn in 1 2 3; do
-        cp "$scratch/empty.book" "$scratch/copy.book"
-        rm -f "$scratch/copy.book-wal"
-        begun=$(date +%s%N)
-        "$program" import "${@:2}" <"$1" >"$scratch/out" || exit 1
-        ended=$(date +%s%N)
-        echo $(((ended - begun) / 1000))
-    done | sort -n | head -n 1
+        copied "$scratch/empty.book"
+        micros "$1" 1 import "${@:2}" || exit 1
+    done | lowest
 }
 
 made "$scratch/empty.book" <examples/profile/accounts.ledger || exit 1

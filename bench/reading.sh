@@ -2,11 +2,8 @@
 # What reading costs: its share of a whole run, how it grows with the text, and what unusual texts cost beside an ordinary one.
 # A text whose last line is faulty is read to its end and none of it is judged, so the time of a run on it is that of reading.
 # Of interest are the ratios, not the times of this machine.
-set -u -o pipefail
+source "$(dirname "$(readlink -f "${BASH_SOURCE[0]}")")/lib/runs.sh"
 shopt -s lastpipe # the last part of a pipe runs in this shell
-
-cd "$(dirname "$(readlink -f "${BASH_SOURCE[0]}")")" || exit 1
-. lib/runs.sh
 
 # ledger KEPT TRANSACTIONS: purchases of 50 commodities with labels, and after each the sale of what was bought, or where KEPT
 # is 1 another purchase.
@@ -47,10 +44,11 @@ answered() {
     fi
 }
 
-mib() { wc -c <"$1" | awk '{ printf "%.2f\n", $1 / 1048576 }'; }
+# size FILE: its MiB.
+size() { mib $(($(wc -c <"$1") / 1024)); }
 
-# ratio A B WIDTH: prints A as a ratio to B, in a column.
-ratio() { awk -v a="$1" -v b="$2" -v w="$3" 'BEGIN { if (b > 0) printf " %*.2f", w, a / b; else printf " %*s", w, "-" }'; }
+# for_each_byte WHAT BYTES: so much of it for each byte.
+for_each_byte() { awk -v what="$1" -v bytes="$2" 'BEGIN { print what / bytes }'; }
 
 # share NAME KEPT TRANSACTIONS: a row of the first table.
 share() {
@@ -61,9 +59,7 @@ share() {
     answered "^$(($3 + 4)) accepted"
     reading=$(seconds "$scratch/faulty" $((100000 / $3)))
     answered '^fault line [0-9]* X3'
-    printf '%-24s %12d %8s %10.3f %10.3f' "$1" "$3" "$(mib "$scratch/text")" "$whole" "$reading"
-    ratio "$reading" "$whole" 8
-    echo
+    printf '%-24s %12d %8s %10.3f %10.3f %8s\n' "$1" "$3" "$(size "$scratch/text")" "$whole" "$reading" "$(ratio "$reading" "$whole")"
 }
 
 echo "the share of reading in a whole run"
@@ -81,29 +77,23 @@ for transactions in 12500 25000 50000 100000; do
     time=$(seconds "$scratch/text" $((100000 / transactions)))
     answered '^fault line [0-9]* X3'
     room=$(peak "$scratch/text")
-    size=$(wc -c <"$scratch/text")
-    if ((transactions == 12500)); then first_time=$time first_room=$room first_size=$size; fi
-    printf '%12d' "$transactions"
-    ratio "$size" "$first_size" 8
-    ratio "$time" "$first_time" 10
-    ratio "$room" "$first_room" 10
-    printf ' %10.3f\n' "$time"
+    bytes=$(wc -c <"$scratch/text")
+    if ((transactions == 12500)); then first_time=$time first_room=$room first_bytes=$bytes; fi
+    printf '%12d %8s %10s %10s %10.3f\n' "$transactions" "$(ratio "$bytes" "$first_bytes")" "$(ratio "$time" "$first_time")" \
+        "$(ratio "$room" "$first_room")" "$time"
 done
-usual=$(awk -v t="$time" -v b="$size" 'BEGIN { print t / b }')
-usual_room=$(awk -v r="$room" -v b="$size" 'BEGIN { print r / b }')
+usual=$(for_each_byte "$time" "$bytes") usual_room=$(for_each_byte "$room" "$bytes")
 
 # unusual NAME PATTERN: a row for the text of standard input, to which the program answers with such a line.
 unusual() {
-    local time room size
+    local time room bytes
     cat >"$scratch/text"
     time=$(seconds "$scratch/text" 1)
     answered "$2"
     room=$(peak "$scratch/text")
-    size=$(wc -c <"$scratch/text")
-    printf '%-44s %8s' "$1" "$(mib "$scratch/text")"
-    ratio "$(awk -v t="$time" -v b="$size" 'BEGIN { print t / b }')" "$usual" 10
-    ratio "$(awk -v r="$room" -v b="$size" 'BEGIN { print r / b }')" "$usual_room" 10
-    printf ' %10.3f\n' "$time"
+    bytes=$(wc -c <"$scratch/text")
+    printf '%-44s %8s %10s %10s %10.3f\n' "$1" "$(size "$scratch/text")" "$(ratio "$(for_each_byte "$time" "$bytes")" "$usual")" \
+        "$(ratio "$(for_each_byte "$room" "$bytes")" "$usual_room")" "$time"
 }
 
 # full BYTE: a full input of one byte.

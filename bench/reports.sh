@@ -1,26 +1,8 @@
 #!/usr/bin/env bash
 # What a row of each report costs, and how that grows with the entries of the book: time by the clock, and the most memory, both
 # without those of a call that opens the book and does nothing else. Of interest are the ratios, not the times of this machine.
-set -u -o pipefail
-
-cd "$(dirname "$(readlink -f "${BASH_SOURCE[0]}")")" || exit 1
-# The books lie in memory where the machine has room for files there: a report only reads.
-if [[ -d /dev/shm && -w /dev/shm ]]; then export TMPDIR=/dev/shm; fi
-. lib/books.sh
-. lib/runs.sh
-
-# trades COUNT: the accounts and a price of each commodity; then so many transactions, two purchases and a sale of one of them in turn.
-# A third of the entries is a lot that is held, a third a sale; a commodity has at most ten lots.
-trades() {
-    awk -v count="$1" 'BEGIN {
-        print "2020-01-01 open Assets:Broker \"FIFO\"\n2020-01-01 open Assets:Cash\n2020-01-01 open Income:Gains"
-        for (n = 0; n < count; n++) {
-            if (n % 30 == 0) printf "2020-01-02 price C%d 120 USD\n", n / 30
-            if (n % 3 < 2) printf "2020-01-02 * \"Buy\"\n  Assets:Broker 2 C%d {%d.%02d USD}\n  Assets:Cash\n", n / 30, 100 + n % 30, n % 100
-            else printf "2020-01-02 * \"Sell\"\n  Assets:Broker -2 C%d {} @ 130 USD\n  Assets:Cash 260 USD\n  Income:Gains\n", n / 30
-        }
-    }'
-}
+source "$(dirname "$(readlink -f "${BASH_SOURCE[0]}")")/lib/runs.sh"
+in_memory # a report only reads
 
 # lots COUNT: so many lots of one commodity in each of two accounts, and a sale of all of one of them. A transaction opens thirty of each.
 lots() {
@@ -38,15 +20,10 @@ lots() {
 # clock RUNS BOOK WORDS..: the microseconds of a call on the book, as the mean of so many one after another, the least of five
 # such. What it prints is kept.
 clock() {
-    local turn run begun ended
-    for ((turn = 0; turn < 5; turn++)); do
-        begun=$(date +%s%N)
-        for ((run = 0; run < $1; run++)); do
-            "$program" "${@:3}" --book "$2" </dev/null >"$scratch/out" || echo "it failed: ${*:3}" >&2
-        done
-        ended=$(date +%s%N)
-        echo $(((ended - begun) / 1000 / $1))
-    done | sort -n | head -n 1
+    local turn
+    for turn in 1 2 3 4 5; do
+        micros /dev/null "$1" "${@:3}" --book "$2" || echo "it failed: ${*:3}" >&2
+    done | lowest
 }
 
 # rows_of REPORT: the rows that the last call printed: lots, legs of sales, or entries; of CSV plain positions, too.
@@ -84,7 +61,7 @@ table() {
 echo "books of so many entries: rows of the report in a millisecond, microseconds for a row and their ratio, and memory"
 size=entries most_rows=100000
 for entries in 1000 10000 100000; do
-    trades "$((entries - 3 - entries / 31))" | made "$scratch/$entries.book"
+    thirds "$((entries - 3 - entries / 31))" prices | made "$scratch/$entries.book"
 done
 table "$scratch"/{1000,10000,100000}.book
 

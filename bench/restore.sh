@@ -7,57 +7,41 @@
 # and 21 MB; of a million entries, beside other work, 167 s and 83 MB. That `dump` of a million takes 630 MB, as `journal` does, is the opening.
 #
 #   bench/restore.sh [ENTRIES]    of so many entries, too, as 1000000
-set -u -o pipefail
-
-cd "$(dirname "$(readlink -f "${BASH_SOURCE[0]}")")" || exit 1
-if [[ -d /dev/shm && -w /dev/shm ]]; then export TMPDIR=/dev/shm; fi
-. lib/books.sh
-. lib/runs.sh
-
-# trades COUNT: the accounts, then so many transactions, two purchases and a sale of one of them in turn; a commodity has at most ten lots.
-trades() {
-    awk -v count="$1" 'BEGIN {
-        print "2020-01-01 open Assets:Broker \"FIFO\"\n2020-01-01 open Assets:Cash\n2020-01-01 open Income:Gains"
-        for (n = 0; n < count; n++) {
-            if (n % 3 < 2) printf "2020-01-02 * \"Buy\"\n  Assets:Broker 2 C%d {%d.%02d USD}\n  Assets:Cash\n", n / 30, 100 + n % 30, n % 100
-            else printf "2020-01-02 * \"Sell\"\n  Assets:Broker -2 C%d {} @ 130 USD\n  Assets:Cash 260 USD\n  Income:Gains\n", n / 30
-        }
-    }'
-}
+source "$(dirname "$(readlink -f "${BASH_SOURCE[0]}")")/lib/runs.sh"
+in_memory
 
 # posted COUNT: posts so many trades to a new book. A text has 16 MiB at most, so they come in several, each of which fits.
 posted() {
     local part=0
     rm -f "$first"* "$scratch"/part.*
     "$program" init --book "$first" >/dev/null || return
-    trades "$1" | awk -v folder="$scratch" '/^20/ { if (count++ % 100000 == 0) { close(file); file = sprintf("%s/part.%03d", folder, parts++) } } { print >file }'
+    thirds "$1" | awk -v folder="$scratch" '/^20/ { if (count++ % 100000 == 0) { close(file); file = sprintf("%s/part.%03d", folder, parts++) } } { print >file }'
     for part in "$scratch"/part.*; do
         "$program" post --quiet --book "$first" --batch "made-${part##*.}" --all-or-none <"$part" | awk '!/ accepted$/ { exit 1 }' || return
         rm -f "$part"
     done
 }
 
-# least TURNS WORDS..: the milliseconds of a call on this call's standard input, a file, by the clock; the least of so many. A call that
-# restores has no file to begin with.
-least() {
-    local turn input
-    input=$(readlink -f /dev/stdin)
+# turns COUNT FILE WORDS..: the milliseconds of a call on a file, by the clock; the least of so many. A call that restores has no book to
+# begin with.
+turns() {
+    local turn
     for ((turn = 0; turn < $1; turn++)); do
-        if [[ $2 == restore ]]; then rm -f "$new"*; fi
-        millis "${@:2}" <"$input" || echo "it failed: $2" >&2
-    done | sort -n | head -n 1
+        if [[ $3 == restore ]]; then rm -f "$new"*; fi
+        millis "${@:2}" || echo "it failed: $3" >&2
+    done | lowest
 }
 
 first=$scratch/first.book new=$scratch/new.book dump=$scratch/dump
 printf '%9s %9s %11s %11s %9s %11s %9s %11s %11s %12s\n' entries 'dump MiB' 'journal ms' 'dump ms' ratio 'restore ms' us/entry 'journal KiB' 'dump KiB' 'restore KiB'
 for entries in 1000 10000 100000 "$@"; do
-    turns=3
-    if ((entries > 100000)); then turns=1; fi
+    count=3
+    if ((entries > 100000)); then count=1; fi
     if ! posted $((entries - 3)); then echo "the book of $entries entries isn't made" >&2 && exit 1; fi
-    journal=$(least "$turns" journal --book "$first" </dev/null)
-    dumped=$(least "$turns" dump --book "$first" </dev/null)
+    journal=$(turns "$count" /dev/null journal --book "$first")
+    dumped=$(turns "$count" /dev/null dump --book "$first")
     cp "$scratch/out" "$dump"
-    restored=$(least "$turns" restore --book "$new" <"$dump")
+    restored=$(turns "$count" "$dump" restore --book "$new")
     if [[ $(<"$scratch/out") != "book restored" ]]; then echo "it isn't restored: $(head -n 1 "$scratch/out")" >&2 && exit 1; fi
     if [[ "; end $("$program" verify --book "$new" --digest </dev/null | tail -n 1)" != "$(tail -n 1 "$dump")" ]]; then
         echo "another book is restored" >&2 && exit 1

@@ -1,12 +1,7 @@
 #!/usr/bin/env bash
 # What a rounding account costs: instructions of a post of 1,000 commands with the option, beside the same without it; and of 1,000
 # purchases that are completed, beside as many that balance as they are written.
-set -u -o pipefail
-
-cd "$(dirname "$(readlink -f "${BASH_SOURCE[0]}")")" || exit 1
-. lib/books.sh
-. lib/counts.sh
-. lib/runs.sh
+source "$(dirname "$(readlink -f "${BASH_SOURCE[0]}")")/lib/runs.sh"
 
 # ledger UNITS COST: the accounts, then 1,000 purchases of so many units at so much and a cost that grows by 1.
 ledger() {
@@ -22,7 +17,7 @@ posted() {
     rm -f "$scratch/b" "$scratch/b-wal"
     "$program" init --book "$scratch/b" </dev/null >/dev/null || exit 1
     count "$1" post --book "$scratch/b" --batch a "${@:2}"
-    if [[ $(grep -c accepted "$scratch/out") != 1003 ]]; then echo "bench/rounding.sh: not all were accepted" >&2 && exit 1; fi
+    accepted 1003
 }
 
 ledger 0.25 50 >"$scratch/whole"

@@ -5,12 +5,7 @@
 # another program is measured than the one that is built here; with LARGEST=10000 work of more than so many transactions or entries is
 # left out. All takes some 20 minutes on a machine that does nothing else. Of interest are the counts and the ratios, not the
 # seconds of this machine.
-set -u -o pipefail
-
-cd "$(dirname "$(readlink -f "${BASH_SOURCE[0]}")")" || exit 1
-. lib/books.sh
-. lib/counts.sh
-. lib/runs.sh
+source "$(dirname "$(readlink -f "${BASH_SOURCE[0]}")")/lib/runs.sh"
 
 export LC_ALL=C
 sizes=()
@@ -36,20 +31,6 @@ heading() {
 
 # grouped NUMBER: a whole number with commas between its groups of three digits.
 grouped() { sed -e ':again' -e 's/\(.*[0-9]\)\([0-9]\{3\}\)/\1,\2/' -e 't again' <<<"$1"; }
-
-# share A B: A in parts of B, or a dash where one isn't known.
-share() { awk -v a="$1" -v b="$2" 'BEGIN { if (a + 0 > 0 && b + 0 > 0) printf "%.2f\n", a / b; else print "-" }'; }
-
-# mib KIB: so many KiB in MiB.
-mib() { awk -v kib="$1" 'BEGIN { printf "%.1f\n", kib / 1024 }'; }
-
-# accepted: every command of the last run was accepted.
-accepted() {
-    if grep -q -m 1 -E 'refused|fault' "$scratch/out"; then
-        echo "table.sh: $(grep -m 1 -E 'refused|fault' "$scratch/out")" >&2
-        exit 1
-    fi
-}
 
 # once FILE COMMAND..: the seconds of processor time of one run of a command on a file.
 once() {
@@ -111,8 +92,8 @@ check_table() {
         time=$(seconds "$text" 1)
         room=$(peak "$text")
         row "$(grouped "$transactions")" "$(mib "$(($(wc -c <"$text") / 1024))")" "$(grouped "$(apart "$all" 0 "$transactions")")" \
-            "$(apart "$all" 0 "$(wc -c <"$text")")" "$(share "$reading" "$all")" "$(share "$judging" "$all")" "$time" "$(mib "$room")" \
-            "$(share "$all" "$last_all")" "$(share "$time" "$last_time")" "$(share "$room" "$last_room")"
+            "$(apart "$all" 0 "$(wc -c <"$text")")" "$(ratio "$reading" "$all")" "$(ratio "$judging" "$all")" "$time" "$(mib "$room")" \
+            "$(ratio "$all" "$last_all")" "$(ratio "$time" "$last_time")" "$(ratio "$room" "$last_room")"
         last_all=$all last_time=$time last_room=$room
     done
 }
@@ -130,7 +111,7 @@ beside() {
         trades "$transactions" "$syntax" >"$entries"
         read -r time room <<<"$(used "$entries" "${@/#FILE/$entries}")"
         own_time[$transactions]=${own_time[$transactions]:-$time} own_room[$transactions]=${own_room[$transactions]:-$room}
-        row "$name" "$(grouped "$transactions")" "$time" "$(mib "$room")" "$(share "$time" "${own_time[$transactions]}")" "$(share "$room" "${own_room[$transactions]}")"
+        row "$name" "$(grouped "$transactions")" "$time" "$(mib "$room")" "$(ratio "$time" "${own_time[$transactions]}")" "$(ratio "$room" "${own_room[$transactions]}")"
     done
 }
 
@@ -207,7 +188,7 @@ sales_table() {
                 first=${first:-${cells[0]}}
             done
             row "$method" "$( ((days)) && echo "days of their own" || echo "one day")" "$(grouped "${cells[0]}")" "$(grouped "${cells[1]}")" \
-                "$(grouped "${cells[2]}")" "$(grouped "${cells[3]}")" "$(share "${cells[1]}" "$first")" "$(share "${cells[2]}" "$first")" "$(share "${cells[3]}" "$first")"
+                "$(grouped "${cells[2]}")" "$(grouped "${cells[3]}")" "$(ratio "${cells[1]}" "$first")" "$(ratio "${cells[2]}" "$first")" "$(ratio "${cells[3]}" "$first")"
         done
     done
 }
@@ -222,13 +203,13 @@ wide_table() {
         one=$(apart "$(count "$scratch/with")" 0 "$lots")
         accepted
         first=${first:-$one}
-        row purchases "$(grouped "$lots")" "$(grouped "$one")" "$(share "$one" "$first")"
+        row purchases "$(grouped "$lots")" "$(grouped "$one")" "$(ratio "$one" "$first")"
     done
     first=
     for lots in 126 1000 2000 9999; do
         one=$(sale FIFO "$lots" 0 63 63 "$(base FIFO "$lots" 0 0)")
         first=${first:-$one}
-        row "FIFO sales" "$(grouped "$lots")" "$(grouped "$one")" "$(share "$one" "$first")"
+        row "FIFO sales" "$(grouped "$lots")" "$(grouped "$one")" "$(ratio "$one" "$first")"
     done
 }
 
@@ -263,7 +244,7 @@ post_table() {
 # grown NAME CELL..: a row with the ratios of each cell to the one before.
 grown() {
     local cells=("${@:2}") ratios=() at
-    for ((at = 1; at < ${#cells[@]}; at++)); do ratios+=("$(share "${cells[at]}" "${cells[at - 1]}")"); done
+    for ((at = 1; at < ${#cells[@]}; at++)); do ratios+=("$(ratio "${cells[at]}" "${cells[at - 1]}")"); done
     row "$1" "${cells[@]}" "${ratios[@]}"
 }
 

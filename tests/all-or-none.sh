@@ -2,25 +2,17 @@
 # Calls with --all-or-none: where a command is refused or a fault comes, the replies and the status are those of a call that keeps what it
 # can, and the book holds nothing of them; else all is kept, in one commit, behind which the replies are written. SQLite's own library
 # looks into the files.
-source "$(dirname "$(readlink -f "${BASH_SOURCE[0]}")")/lib/cases.sh"
+source "$(dirname "$(readlink -f "${BASH_SOURCE[0]}")")/lib/books.sh"
 need_program
 
-accounts=(--invest Assets:Broker --cash Assets:Cash --fees Expenses:Fees --gains Income:Gains)
 first=$examples/first-purchase.ledger
 book=$scratch/family.book
-tables() { python3 -B "$root/tests/book/tables.py" "$@"; }
 
 # entries FILE: how many commands a book holds, read in a copy of its files.
 entries() {
     rm -f "$scratch/looked"*
     cp "$1" "$scratch/looked" && if [[ -e $1-wal ]]; then cp "$1-wal" "$scratch/looked-wal"; fi
     tables rows "$scratch/looked" "SELECT count(*) FROM entry" 2>&1
-}
-
-# kept: the bytes of the book's file. The log beside it, shorter than a page, holds no commit.
-kept() {
-    sha256sum <"$book"
-    if [[ -f $book-wal ]] && (($(stat -c %s "$book-wal") >= 4096)); then sha256sum <"$book-wal"; fi
 }
 
 # whole NAME INPUT COUNT WORDS..: the words on the book, with --all-or-none; the answer is that of the call without it on a copy, and the
@@ -33,14 +25,12 @@ whole() {
     if [[ -e $book-wal ]]; then cp "$book-wal" "$scratch/real-wal"; fi
     timeout 600 "$program" "${@:4}" --book "$scratch/real" <"$2" >"$scratch/expected" 2>/dev/null
     status_wanted=$?
-    before=$(kept) count=$(entries "$book")
+    before=$(kept "$book") count=$(entries "$book")
     run "${@:4}" --book "$book" --all-or-none <"$2"
     expect "$1" "$status_wanted" "$scratch/expected"
-    if [[ $count == "$3" ]]; then
-        if [[ $(kept) == "$before" ]]; then pass "$1: the file is as it was"; else fail "$1: the file is as it was" "it changed"; fi
-    fi
+    if [[ $count == "$3" ]]; then same "$1: the file is as it was" "$book" "$before"; fi
     if ((status == 1)); then
-        wanted="lotbook: $book: nothing is kept, since not all was accepted: entries and lots are named above as the call would have made them"
+        wanted="lotbook: $book: $nothing_kept"
         if grep -qxF "$wanted" "$scratch/err"; then pass "$1: it says so"; else fail "$1: it says so" "$(tail -n 1 "$scratch/err")"; fi
     fi
     if [[ $(entries "$book") == "$3" ]]; then pass "$1: $3 commands"; else fail "$1: $3 commands" "there are $(entries "$book")"; fi
@@ -50,14 +40,13 @@ printf '2020-01-31 open Assets:Euro EUR\n2020-01-01 open Assets:Broker\n2020-02-
 printf '2020-01-31 open Assets:Euro EUR\n2020-13-01 open Assets:Pound\n' >"$scratch/faulty"
 printf '2020-01-31 open Assets:Euro EUR\n2020-02-01 open Assets:Won\n' >"$scratch/right"
 printf '2020-01-01 open Expenses:Fees\n2020-01-01 open Income:Gains\n' >"$scratch/more"
-header=ref,date,action,symbol,units,price,currency,fee
 { echo "$header" && printf 'R-1,2020-02-0%d,BUY,HOOL,1,100,USD,\n' 3 2; } >"$scratch/refused.csv"
 { echo "$header" && printf 'R-%d,2020-02-03,BUY,HOOL,1,100,USD,\n' 1 2; } >"$scratch/rows.csv"
 awk 'BEGIN { for (n = 0; n < 2000; n++) printf "2020-01-01 open Assets:A%d\n", n }' >"$scratch/many"
 
 # ---- a book
 
-"$program" init --book "$book" </dev/null >/dev/null
+new_book "$book"
 whole "a first batch" "$first" 3 post --batch a
 whole "the same once more" "$first" 3 post --batch a
 whole "accounts" "$scratch/more" 5 post --batch accounts
@@ -94,7 +83,7 @@ if ((status == 1)) && [[ ! -s $scratch/err ]]; then pass "nothing is said with -
 # ---- no book
 
 prints "no book" 4 "fault S1 NotABook" post --book "$scratch/missing.book" --batch a --all-or-none <"$first"
-if [[ ! -e $scratch/missing.book ]]; then pass "none is made"; else fail "none is made" "there is a file"; fi
+no_file "none is made" "$scratch/missing.book"
 tables foreign "$scratch/foreign.book" notes
 prints "a database of another program" 4 "fault S1 NotABook" post --book "$scratch/foreign.book" --batch a --all-or-none <"$first"
 tables older "$scratch/older.book"
@@ -102,14 +91,11 @@ run post --book "$scratch/older.book" --batch a --all-or-none <"$first"
 older "a book of edition 1"
 echo "no database" >"$scratch/text.book"
 run post --book "$scratch/text.book" --batch a --all-or-none <"$first"
-if ((status == 4)) && [[ $(<"$scratch/out") == "fault open" ]]; then pass "a text file"; else fail "a text file" "status $status"; fi
+unopened "a text file"
 
 # ---- another program; an input of which no byte is read where the file is in use
 
-mkfifo "$scratch/slow"
-"$program" post --book "$book" --batch slow --all-or-none <"$scratch/slow" >"$scratch/posted" 2>&1 &
-exec 8>"$scratch/slow"
-until_open "$book"
+slow_call "$book" post --batch slow --all-or-none
 exec 9<"$first"
 timeout 600 "$program" post --book "$book" --batch a --all-or-none <&9 >"$scratch/out" 2>"$scratch/err" && status=0 || status=$?
 cat <&9 >"$scratch/unread" && exec 9<&-
@@ -120,7 +106,7 @@ else
 fi
 cat "$scratch/many" >&8 && printf '2020-01-01 open Assets:A1\n' >&8 && exec 8>&-
 wait
-if [[ $(tail -n 1 "$scratch/posted") == "lotbook: $book: nothing is kept, since not all was accepted: entries and lots are named above as the call would have made them" && $(entries "$book") == 2011 ]]; then
+if [[ $(tail -n 1 "$scratch/posted") == "lotbook: $book: $nothing_kept" && $(entries "$book") == 2011 ]]; then
     pass "that program keeps nothing, since its last command was refused"
 else
     fail "that program keeps nothing" "$(tail -n 1 "$scratch/posted"), $(entries "$book") commands"
@@ -144,8 +130,8 @@ rm -f "$book"* && cp "$scratch/sound" "$book"
 
 again='the same call, sent again, tells: where all is kept, each line says `repeat`'
 stood=$(entries "$book")
-"$program" post --book "$book" --batch f --all-or-none <"$scratch/mixed" >/dev/full 2>"$scratch/err" && status=0 || status=$?
-if ((status == 4)) && [[ $(entries "$book") == "$stood" && $(tail -n 2 "$scratch/err") == "lotbook: $book: nothing is kept, since not all was accepted: entries and lots are named above as the call would have made them
+run_full post --book "$book" --batch f --all-or-none <"$scratch/mixed"
+if ((status == 4)) && [[ $(entries "$book") == "$stood" && $(tail -n 2 "$scratch/err") == "lotbook: $book: $nothing_kept
 lotbook: standard output: No space left on device (os error 28): the output is cut short" ]]; then
     pass "refused, with a full disk"
 else
@@ -162,7 +148,7 @@ unheard() {
     prints "$1: sent again" 0 "$(seq -f '%g repeat' "$2")" post --book "$book" --batch "$batch" --all-or-none <"$3"
 }
 printf '2020-03-01 open Assets:Gold\n2020-03-01 open Assets:Silver\n' >"$scratch/metals"
-"$program" post --book "$book" --batch metals --all-or-none <"$scratch/metals" >/dev/full 2>"$scratch/err" && status=0 || status=$?
+run_full post --book "$book" --batch metals --all-or-none <"$scratch/metals"
 unheard "accepted, with a full disk" 2 "$scratch/metals" metals
 mkfifo "$scratch/closed" && exec 7<>"$scratch/closed" && exec 8>"$scratch/closed" && exec 7>&- # a pipe that nobody reads
 sed s/Assets/Equity/ "$scratch/many" >"$scratch/others"
@@ -172,20 +158,18 @@ unheard "a pipe that is closed" 2000 "$scratch/others" others
 room=67108864
 rm -f "$scratch/limited" && truncate -s $((room - 25)) "$scratch/limited"
 sed s/Assets/Income/ "$scratch/many" >"$scratch/others"
-(trap '' XFSZ && ulimit -f $((room / 1024)) &&
-    exec "$program" post --book "$book" --batch cut --all-or-none <"$scratch/others" >>"$scratch/limited") 2>"$scratch/err"
+limited $((room / 1024)) post --book "$book" --batch cut --all-or-none <"$scratch/others" >>"$scratch/limited" 2>"$scratch/err"
 status=$?
 if [[ $(tail -c 25 "$scratch/limited") == $'1 accepted\n2 accepted\n3 a' ]]; then pass "a reply cut in its middle"; else fail "a reply cut in its middle" "$(tail -c 25 "$scratch/limited")"; fi
 unheard "a reply cut in its middle" 2000 "$scratch/others" cut
 
 # ---- a disk without room
 
-# limited ROOM INPUT: the input is posted to a new book, all or none, with files of at most so many KiB. Sets `at` to the number of the
+# in_room ROOM INPUT: the input is posted to a new book, all or none, with files of at most so many KiB. Sets `at` to the number of the
 # command at which there was a fault, and `stood` to how many commands the book has then.
-limited() {
-    rm -f "$book"*
-    "$program" init --book "$book" </dev/null >/dev/null
-    (trap '' XFSZ && ulimit -f "$1" && exec "$program" post --book "$book" --batch a --all-or-none <"$2") >"$scratch/out" 2>"$scratch/err"
+in_room() {
+    new_book "$book"
+    limited "$1" post --book "$book" --batch a --all-or-none <"$2" >"$scratch/out" 2>"$scratch/err"
     status=$?
     at=$(wc -l <"$scratch/out") stood=$(entries "$book")
 }
@@ -200,7 +184,7 @@ sent_again() {
 
 met=""
 for room in {0..1600..100}; do
-    limited "$room" "$scratch/many"
+    in_room "$room" "$scratch/many"
     last=$(tail -n 1 "$scratch/out")
     if ((status == 0 && at == 2000 && stood == 2000)); then
         met+=" kept" && pass "with room for $room KiB, kept"
@@ -224,7 +208,7 @@ awk 'BEGIN {
     print "2020-01-01 open Assets:A"
     for (n = 1; n < 4500; n++) printf "2020-01-02 * \"%s\" \"%s\"\n  Assets:A 1 USD\n  Assets:A -1 USD\n", pad, pad
 }' >"$scratch/long"
-limited 6000 "$scratch/long"
+in_room 6000 "$scratch/long"
 if ((status == 4 && at > 1 && at < 4500 && stood == 0)) && cmp -s "$scratch/out" <(seq -f '%g accepted' $((at - 1)) && echo "$at fault S4 Device"); then
     pass "a disk without room ahead of the commit"
 else

@@ -4,9 +4,8 @@
 # that it is skipped, and its last line is `0 passed, 0 failed`. Each text of tests/cases/ and of examples/ that has no fault, the texts
 # of each session of tests/reports/, a book of 1,000 trades, and years with crumbs, which an account takes (tests/rounding/made.py), are
 # posted, and the journal is read as it stands, without a tolerance. Left out are books with HIFO, which Beancount 2 doesn't know; tests/beancount.differs names the journals that it judges otherwise, with the reason.
-# The books lie in memory where the machine has room for files there.
-if [[ -d /dev/shm && -w /dev/shm ]]; then export TMPDIR=/dev/shm; fi
-source "$(dirname "$(readlink -f "${BASH_SOURCE[0]}")")/lib/cases.sh"
+source "$(dirname "$(readlink -f "${BASH_SOURCE[0]}")")/lib/books.sh"
+in_memory
 
 # The Python that has Beancount, first on the path.
 mkdir "$scratch/bin"
@@ -33,7 +32,7 @@ is_faulty() {
 }
 # keep NAME OPTIONS..: posts this call's standard input to a copy of a new book, and keeps its journal and its holdings, unless the text
 # is faulty or an account of it has the method HIFO.
-"$program" init --book "$scratch/new" </dev/null >/dev/null || fail "a new book" "it can't be made"
+new_book "$scratch/new"
 keep() {
     local journal
     rm -f "$book"*

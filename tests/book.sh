@@ -1,25 +1,13 @@
 #!/usr/bin/env bash
 # Books in files: they are made and posted to, their lots are numbered as they are opened, batches are sent again, calls are stopped at
 # any moment, and SQLite's own library looks into the files.
-source "$(dirname "$(readlink -f "${BASH_SOURCE[0]}")")/lib/cases.sh"
+source "$(dirname "$(readlink -f "${BASH_SOURCE[0]}")")/lib/books.sh"
 need_program
 
 first=$examples/first-purchase.ledger
 printf '2020-01-01 open Assets:Other\n' >"$scratch/good"
 printf '2020-13-01 open Assets:Other\n' >"$scratch/faulty"
 accepted=$'1 accepted\n2 accepted\n3 accepted'
-
-tables() { python3 -B "$root/tests/book/tables.py" "$@"; }
-
-# makes FILE: a book is made there, as a step of a case.
-makes() { "$program" init --book "$1" </dev/null >/dev/null 2>&1 || fail "a book for a case" "$1"; }
-
-# shows NAME TEXT WORDS..: tables.py prints the lines of TEXT.
-shows() {
-    local found
-    found=$(tables "${@:3}" 2>&1)
-    if [[ $found == "$2" ]]; then pass "$1"; else fail "$1" "$(head -c 200 <<<"$found" | tr '\n' '|')"; fi
-}
 
 # ---- a book, and the same text again
 
@@ -62,25 +50,12 @@ numbers() {
     shows "$1, by the legs" "$2" numbered "$book"
 }
 book=$scratch/openings.book
-makes "$book"
-prints "a lot that is emptied, and opened again behind another one" 0 "$(seq -f '%g accepted' 8)" post --book "$book" --batch a <<'END'
-2020-01-01 open Assets:Broker "FIFO"
-2020-01-01 open Assets:Cash
-2020-01-01 open Income:Gains
-2020-01-01 open Equity:Start
-2020-01-02 *
-  Assets:Broker 5 HOOL {100 USD, "b"}
-  Equity:Start
-2020-01-02 *
-  Assets:Broker 5 HOOL {100 USD, "a"}
-  Equity:Start
-2020-01-02 *
-  Assets:Broker -5 HOOL {"b"}
-  Assets:Cash
-2020-01-02 *
-  Assets:Broker 5 HOOL {100 USD, "b"}
-  Equity:Start
-END
+new_book "$book"
+{
+    two_lots
+    printf '2020-01-02 *\n  Assets:Broker -5 HOOL {"b"}\n  Assets:Cash\n'
+    printf '2020-01-02 *\n  Assets:Broker 5 HOOL {100 USD, "b"}\n  Equity:Start\n'
+} | prints "a lot that is emptied, and opened again behind another one" 0 "$(seq -f '%g accepted' 8)" post --book "$book" --batch a
 # Entry 8, posting 1: 64 * 7 + 1. The other lot is of entry 6.
 numbers "its opening number" 'Assets:Broker HOOL {100 USD, 2020-01-02, "a"} 321
 Assets:Broker HOOL {100 USD, 2020-01-02, "b"} 449'
@@ -137,18 +112,12 @@ run_python tests/book/batches.py "$program" "$root/tests/cases" "$scratch"
 
 # ---- files of every kind
 
-# kept FILE: the bytes of a file and of the log beside it, or that they aren't there. A log shorter than a page holds no commit.
-kept() {
-    if [[ -f $1 ]]; then sha256sum <"$1"; else echo none; fi
-    if [[ -f $1-wal ]] && (($(stat -c %s "$1-wal") >= 4096)); then sha256sum <"$1-wal"; else echo none; fi
-}
-
 # on NAME FILE STATUS LINE WORDS..: the program writes the line, and the file is afterwards what it was.
 on() {
     local before
     before=$(kept "$2")
     prints "$1" "$3" "$4" "${@:5}"
-    if [[ $(kept "$2") == "$before" ]]; then pass "$1: the file is as it was"; else fail "$1" "the file changed"; fi
+    same "$1: the file is as it was" "$2" "$before"
 }
 
 # refused KIND FILE INIT POST: `init`, and `post` with a good and with a faulty text, on a file that is no book.
@@ -162,24 +131,20 @@ refused() {
 closed() {
     local before
     before=$(kept "$2")
-    unopened "init on $1" init --book "$2"
-    unopened "post on $1" post --book "$2" --batch a
-    if [[ $(kept "$2") == "$before" ]]; then pass "$1 is as it was"; else fail "$1 is as it was" "it changed"; fi
+    unopened_by "init on $1" init --book "$2"
+    unopened_by "post on $1" post --book "$2" --batch a
+    same "$1 is as it was" "$2" "$before"
 }
 mkfifo "$scratch/nothing" && exec 7<>"$scratch/nothing" # an input of which no byte ever comes
-unopened() {
-    timeout 600 "$program" "${@:2}" <&7 >"$scratch/out" 2>"$scratch/err" && status=0 || status=$?
-    if ((status == 4)) && [[ $(<"$scratch/out") == "fault open" && -s $scratch/err ]]; then
-        pass "$1"
-    else
-        fail "$1" "status $status, $(head -n 1 "$scratch/out"), $(head -n 1 "$scratch/err")"
-    fi
+unopened_by() {
+    run "${@:2}" <&7
+    unopened "$1"
 }
 
 missing=$scratch/missing.book
 on "post on a missing file" "$missing" 4 "fault S1 NotABook" post --book "$missing" --batch a <"$scratch/good"
 on "a faulty text on a missing file" "$missing" 3 "fault line 1 X6 BadDay" post --book "$missing" --batch a <"$scratch/faulty"
-if compgen -G "$missing*" >/dev/null; then fail "no file is left" "$(ls "$missing"*)"; else pass "no file is left"; fi
+no_file "no file is left" "$missing"
 
 : >"$scratch/empty.book" # opening it makes an empty database of it
 prints "post on an empty file" 4 "fault S1 NotABook" post --book "$scratch/empty.book" --batch a <"$scratch/good"
@@ -204,19 +169,19 @@ tables foreign "$scratch/other.db" notes
 refused "a database of another program" "$scratch/other.db" "fault S1 NotABook" "fault S1 NotABook"
 shows "the other table" kept rows "$scratch/other.db" "SELECT content FROM notes"
 
-makes "$scratch/newer.book"
+new_book "$scratch/newer.book"
 tables edition "$scratch/newer.book" 9
 refused "a book of edition 9" "$scratch/newer.book" "fault S1 NotABook" "fault S2 NewerEdition"
-makes "$scratch/next.book"
+new_book "$scratch/next.book"
 tables edition "$scratch/next.book" 3
 refused "a book of edition 3" "$scratch/next.book" "fault S1 NotABook" "fault S2 NewerEdition"
-makes "$scratch/none.book"
+new_book "$scratch/none.book"
 tables edition "$scratch/none.book" 0
 refused "a book of edition 0" "$scratch/none.book" "fault S1 NotABook" "fault S1 NotABook"
 
 # One that a program of edition 1 left, of eleven tables, and one that only says so.
 tables older "$scratch/older.book"
-makes "$scratch/back.book"
+new_book "$scratch/back.book"
 tables edition "$scratch/back.book" 1
 for file in "$scratch/older.book" "$scratch/back.book"; do
     name="a book of edition 1, ${file##*/}"
@@ -227,56 +192,35 @@ for file in "$scratch/older.book" "$scratch/back.book"; do
     older "post on $name"
     run post --book "$file" --batch a --from 7 </dev/null
     older "post of nothing on $name"
-    if [[ $(kept "$file") == "$before" ]]; then pass "$name is as it was"; else fail "$name is as it was" "the file changed"; fi
+    same "$name is as it was" "$file" "$before"
 done
 
 mkdir "$scratch/folder"
 closed "a folder" "$scratch/folder"
 closed "a folder that isn't there" "$scratch/nowhere/family.book"
-unopened "init in a folder that takes no files" init --book /proc/self/family.book
+unopened_by "init in a folder that takes no files" init --book /proc/self/family.book
 closed "no path" ""
 head -c 3000 /dev/urandom | base64 >"$scratch/text.book"
 closed "a text file" "$scratch/text.book"
 head -c 5000 "$book" >"$scratch/half.book"
 closed "half a database" "$scratch/half.book"
 
-# Root may do all, so root runs the program as nobody.
-chmod 755 "$scratch" && cp "$program" "$scratch/lotbook"
-cat >"$scratch/unprivileged" <<'END'
-#!/usr/bin/env python3
-import os, sys
-if os.getuid() == 0:
-    os.setgroups([])
-    os.setgid(65534)
-    os.setuid(65534)
-os.execv(os.path.join(os.path.dirname(sys.argv[0]), "lotbook"), ["lotbook", *sys.argv[1:]])
-END
-chmod +x "$scratch/unprivileged"
+without_rights
 cp "$book" "$scratch/locked.book" && chmod 000 "$scratch/locked.book"
 mkdir -m 555 "$scratch/fixed"
-program=$scratch/unprivileged closed "a file without permission" "$scratch/locked.book"
-program=$scratch/unprivileged unopened "init in a folder without permission" init --book "$scratch/fixed/family.book"
-program=$scratch/unprivileged on "post on a missing file in a folder without permission" "$scratch/fixed/family.book" 4 "fault S1 NotABook" \
+program=$unprivileged closed "a file without permission" "$scratch/locked.book"
+program=$unprivileged unopened_by "init in a folder without permission" init --book "$scratch/fixed/family.book"
+program=$unprivileged on "post on a missing file in a folder without permission" "$scratch/fixed/family.book" 4 "fault S1 NotABook" \
     post --book "$scratch/fixed/family.book" --batch a <"$scratch/good"
 
 # ---- two at once
 
-makes "$scratch/shared.book"
-mkfifo "$scratch/slow"
-"$program" post --book "$scratch/shared.book" --batch a <"$scratch/slow" >"$scratch/first" 2>&1 &
-exec 8>"$scratch/slow"
-for _ in {1..1200}; do # the other one has opened the file once it is locked
-    timeout 600 "$program" post --book "$scratch/shared.book" --batch b </dev/null >"$scratch/out" 2>"$scratch/err" && status=0 || status=$?
-    if ((status == 4)); then break; fi
-    sleep 0.05
-done
-if ((status == 4)) && [[ $(<"$scratch/out") == "fault open" ]]; then
-    pass "a second post"
-else
-    fail "a second post" "status $status, $(head -n 1 "$scratch/out")"
-fi
+new_book "$scratch/shared.book"
+slow_call "$scratch/shared.book" post --batch a
+run post --book "$scratch/shared.book" --batch b </dev/null
+unopened "a second post"
 exec 9<"$first" # the program and this shell share the place in the file, so a byte that the one reads is gone for the other
-timeout 600 "$program" post --book "$scratch/shared.book" --batch b <&9 >"$scratch/out" 2>"$scratch/err" && status=0 || status=$?
+run post --book "$scratch/shared.book" --batch b <&9
 cat <&9 >"$scratch/unread" && exec 9<&-
 if ((status == 4)) && [[ $(<"$scratch/out") == "fault open" && -s $scratch/err ]] && cmp -s "$first" "$scratch/unread"; then
     pass "a second post reads no byte of its input"
@@ -284,10 +228,10 @@ else
     fail "a second post reads no byte of its input" "status $status, $(head -n 1 "$scratch/out"), $(wc -c <"$scratch/unread") bytes left"
 fi
 cat "$first" >&8 && exec 8>&-
-wait && [[ $(<"$scratch/first") == "$accepted" ]] && pass "the first post goes on" || fail "the first post goes on" "$(<"$scratch/first")"
+wait && [[ $(<"$scratch/posted") == "$accepted" ]] && pass "the first post goes on" || fail "the first post goes on" "$(<"$scratch/posted")"
 
 # Ten posts side by side, each of which waits for its turn: all of them are kept.
-makes "$scratch/turns.book"
+new_book "$scratch/turns.book"
 for number in {1..10}; do
     printf '2020-01-01 open Assets:A%d\n2020-01-02 price A%d 1 USD\n' "$number" "$number" |
         flock "$scratch/turns.lock" "$program" post --book "$scratch/turns.book" --batch "b$number" >"$scratch/turn.$number" 2>&1 &
@@ -302,7 +246,7 @@ shows "each is in the book" "10|20" rows "$scratch/turns.book" "SELECT count(DIS
 
 # ---- damage
 
-makes "$scratch/damaged.book"
+new_book "$scratch/damaged.book"
 "$program" post --book "$scratch/damaged.book" --batch a <"$first" >"$scratch/out"
 tables damage "$scratch/damaged.book"
 prints "an opening elsewhere" 0 "1 accepted" post --book "$scratch/damaged.book" --batch b <"$scratch/good"
@@ -314,8 +258,8 @@ shows "nothing of it stands" 4 rows "$scratch/damaged.book" "SELECT count(*) FRO
 
 # Each command is a commit of some pages, so a limit on the size of files stops a run between two of them.
 awk 'BEGIN { for (n = 0; n < 2000; n++) printf "2020-01-01 open Assets:A%d\n", n }' >"$scratch/many"
-makes "$scratch/full.book"
-(trap '' XFSZ && ulimit -f 600 && exec "$program" post --book "$scratch/full.book" --batch a <"$scratch/many") >"$scratch/out" 2>"$scratch/err"
+new_book "$scratch/full.book"
+limited 600 post --book "$scratch/full.book" --batch a <"$scratch/many" >"$scratch/out" 2>"$scratch/err"
 status=$?
 last=$(tail -n 1 "$scratch/out") at=$(wc -l <"$scratch/out")
 if ((status == 4)) && [[ $last == "$at fault S4 Device" || $last == "$at fault S5 InDoubt" ]] && ! grep -qv ' accepted$' <(head -n -1 "$scratch/out"); then
@@ -336,7 +280,7 @@ shows "all entries stand" 2000 rows "$scratch/full.book" "SELECT count(*) FROM e
 # program says goes through a pipe, since the limit is one of each file.
 for room in {0..200..20}; do
     rm -f "$scratch/roomless.book"*
-    said=$( (trap '' XFSZ && ulimit -f "$room" && exec "$program" init --book "$scratch/roomless.book") </dev/null 2>&1)
+    said=$(limited "$room" init --book "$scratch/roomless.book" </dev/null 2>&1)
     status=$? size=$(stat -c %s "$scratch/roomless.book" 2>/dev/null || echo none)
     if ((status == 4)) && [[ $said == *"fault open"* && $said == *"lotbook: $scratch/roomless.book: File too large (os error 27)" && $size =~ ^(none|0|4096)$ ]]; then
         pass "init with room for $room KiB"
@@ -349,20 +293,19 @@ done
 
 # ---- output that can't be written
 
-makes "$scratch/unheard.book"
-"$program" post --book "$scratch/unheard.book" --batch a <"$first" >/dev/full 2>"$scratch/err" && status=0 || status=$?
+new_book "$scratch/unheard.book"
+run_full post --book "$scratch/unheard.book" --batch a <"$first"
 stops "output to a full disk" "command 1 is the last of this call in the book; --from 1 goes on"
 prints "the command whose reply couldn't be written stands, and no other" 0 $'1 repeat\n2 accepted\n3 accepted' \
     post --book "$scratch/unheard.book" --batch a <"$first"
-"$program" init --book "$scratch/unsaid.book" </dev/null >/dev/full 2>"$scratch/err" && status=0 || status=$?
+run_full init --book "$scratch/unsaid.book" </dev/null
 stops "making a book with output to a full disk" "the book is made"
 prints "it was made" 4 "fault S1 NotABook" init --book "$scratch/unsaid.book" </dev/null
 
-rm -f "$scratch/cut.book"* && makes "$scratch/cut.book"
-{ "$program" post --book "$scratch/cut.book" --batch a <"$scratch/many" 2>"$scratch/err" && echo 0 >"$scratch/status" || echo $? >"$scratch/status"; } |
-    head -n 20 >"$scratch/taken"
+new_book "$scratch/cut.book"
+"$program" post --book "$scratch/cut.book" --batch a <"$scratch/many" 2>"$scratch/err" | head -n 20 >"$scratch/taken"
+status=${PIPESTATUS[0]}
 seq -f '%g accepted' 20 >"$scratch/expected"
-status=$(<"$scratch/status")
 stops "a pipe that is closed in the middle" "command ([0-9]+) is the last of this call in the book; --from \1 goes on"
 if cmp -s "$scratch/taken" "$scratch/expected"; then
     pass "its first lines"
@@ -378,10 +321,9 @@ fi
 
 # What was told completes the book: it is that of a post that wasn't disturbed.
 "$program" journal --book "$scratch/cut.book" >"$scratch/whole"
-rm -f "$scratch/cut.book"* && makes "$scratch/cut.book"
-{ "$program" post --book "$scratch/cut.book" --batch a <"$scratch/many" 2>"$scratch/err" && echo 0 >"$scratch/status" || echo $? >"$scratch/status"; } |
-    grep -q accepted
-status=$(<"$scratch/status")
+new_book "$scratch/cut.book"
+"$program" post --book "$scratch/cut.book" --batch a <"$scratch/many" 2>"$scratch/err" | grep -q accepted
+status=${PIPESTATUS[0]}
 stops "a search that ends at the first reply" "command ([0-9]+) is the last of this call in the book; --from \1 goes on"
 from=$(sed -E 's/.* --from ([0-9]+) goes on/\1/' "$scratch/err")
 run post --book "$scratch/cut.book" --batch a --from "$from" <"$scratch/many"
@@ -391,17 +333,16 @@ else
     fail "sent on behind it" "status $status, $(head -n 1 "$scratch/out")"
 fi
 prints "the book is whole" 0 "$(<"$scratch/whole")" journal --book "$scratch/cut.book" </dev/null
-"$program" post --book "$scratch/unheard.book" --batch b --quiet <"$first" >/dev/full 2>"$scratch/err" && status=0 || status=$?
+run_full post --book "$scratch/unheard.book" --batch b --quiet <"$first"
 if ((status == 4)) && [[ ! -s $scratch/err ]]; then pass "nothing is said with --quiet"; else fail "nothing is said with --quiet" "status $status, $(head -n 1 "$scratch/err")"; fi
 
 # ends NAME COUNT INPUT REMAINS LAST WORDS..: the call on a new book, whose output is a file that takes COUNT bytes more; standard error
 # says REMAINS in its last line, and the output ends with the text LAST.
 room=67108864
 ends() {
-    rm -f "$scratch/ended.book"* && makes "$scratch/ended.book"
-    "$program" post --book "$scratch/ended.book" --batch accounts <"$examples/broker/accounts.ledger" >/dev/null
+    book_of "$scratch/ended.book" accounts <"$examples/broker/accounts.ledger"
     rm -f "$scratch/limited" && truncate -s $((room - $2)) "$scratch/limited"
-    (trap '' XFSZ && ulimit -f $((room / 1024)) && exec "$program" "${@:6}" --book "$scratch/ended.book" <"$3" >>"$scratch/limited") 2>"$scratch/err"
+    limited $((room / 1024)) "${@:6}" --book "$scratch/ended.book" <"$3" >>"$scratch/limited" 2>"$scratch/err"
     status=$?
     sed -i '$!d' "$scratch/err"
     stops "$1" "$4"
@@ -417,22 +358,20 @@ ends "the reply behind a refusal" 125 "$scratch/twelve" "$(reached command 11 11
 ends "nothing stands" 5 "$examples/broker/accounts.ledger" "no command of this call is in the book; --from 1 goes on" '1 ref' post --batch a
 ends "a repeat" 5 "$examples/broker/accounts.ledger" "$(reached command 1 1)" '1 rep' post --batch accounts
 ends "from a later command on" 3 "$scratch/twelve" "$(reached command 5 5)" '5 a' post --batch a --from 5
-accounts=(--invest Assets:Broker --cash Assets:Cash --fees Expenses:Fees --gains Income:Gains)
-{ echo ref,date,action,symbol,units,price,currency,fee && seq -f 'R-%g,2024-01-15,BUY,HOOL,1,100,USD,' 20; } >"$scratch/rows.csv"
+{ echo "$header" && seq -f 'R-%g,2024-01-15,BUY,HOOL,1,100,USD,' 20; } >"$scratch/rows.csv"
 ends "rows" 105 "$scratch/rows.csv" "$(reached row 10 10)" $'9 accepted\n10 acc' import --batch deals "${accounts[@]}"
 
 # ---- progress
 
-makes "$scratch/watched.book"
+new_book "$scratch/watched.book"
 awk 'BEGIN { for (n = 0; n < 4000; n++) printf "2020-01-01 open Assets:A%d\n", n }' >"$scratch/more"
 watched "progress on a terminal" "$scratch/out" "$scratch/more" $'^\r[0-9]+ commands, [0-9]+ a second' post --book "$scratch/watched.book" --batch a
 watched "no progress of a short run" "$scratch/out" "$scratch/good" $'^1 accepted, 0 repeated, 0 refused in [0-9]+\\.[0-9] s\r$' post --book "$scratch/watched.book" --batch b
 # The rows add up in one lot.
-makes "$scratch/broker.book"
-"$program" post --book "$scratch/broker.book" --batch accounts <"$examples/broker/accounts.ledger" >"$scratch/out"
-{ echo ref,date,action,symbol,units,price,currency,fee && seq -f 'R-%g,2024-01-15,BUY,HOOL,1,100,USD,' 4000; } >"$scratch/rows.csv"
+book_of "$scratch/broker.book" accounts <"$examples/broker/accounts.ledger"
+{ echo "$header" && seq -f 'R-%g,2024-01-15,BUY,HOOL,1,100,USD,' 4000; } >"$scratch/rows.csv"
 watched "progress of an import on a terminal" "$scratch/out" "$scratch/rows.csv" $'^\r[0-9]+ rows, [0-9]+ a second' \
-    import --book "$scratch/broker.book" --batch deals --invest Assets:Broker --cash Assets:Cash --fees Expenses:Fees --gains Income:Gains
+    import --book "$scratch/broker.book" --batch deals "${accounts[@]}"
 
 # ---- stops
 

@@ -4,9 +4,8 @@
 # come again, with other rows and in the other version, some have fields at the edges of the rules, and some are changed at
 # random. Each whole answer is compared, byte for byte, with its status, and then what is held. Every fault and every refusal that a row can
 # meet has to occur. Files whose rows leave crumbs go to calls with a rounding account. tests/broker/compare.py says how to repeat one seed.
-# The books lie in memory where the machine has room for files there.
-if [[ -d /dev/shm && -w /dev/shm ]]; then export TMPDIR=/dev/shm; fi
 source "$(dirname "$(readlink -f "${BASH_SOURCE[0]}")")/lib/cases.sh"
+in_memory
 need_program
 run_python tests/broker/compare.py "$program" "$@"
 if (($# == 0)) && takes_crumbs; then run_python tests/broker/compare.py "$program" --crumbs --count 100; fi

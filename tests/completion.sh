@@ -1,7 +1,9 @@
 #!/usr/bin/env bash
 # The completions for bash, zsh and fish: the words, the options, the codes and the files that they offer, against the help of the
-# program. That they are what tools/words.py writes is a case of tests/generated.sh.
+# program; and each list of the subcommands, in the completions, the man page and the pages, against that help. That completions and man
+# page are what tools/words.py writes is a case of tests/generated.sh.
 source "$(dirname "$(readlink -f "${BASH_SOURCE[0]}")")/lib/cases.sh"
+source "$root/tests/lib/words.sh"
 need_program
 source "$root/completions/lotbook.bash"
 
@@ -23,16 +25,47 @@ offers() {
     fi
 }
 
-# words_in_help and options_in_help [WORD]: what the help of the program, or of the word, lists.
-words_in_help() {
-    "$program" -h | sed -n '/^Commands:/,/^$/p' | sed -nE 's/^  ([a-z]+) .*/\1/p' | sort
-}
-options_in_help() {
-    "$program" "$@" -h | sed -nE 's/^ +(-[A-Za-z], )?(--[a-z-]+).*/\2/p' | sort
-}
-
 words=$(words_in_help)
 (($(wc -l <<<"$words") > 7)) && pass "the help lists words" || fail "the help lists words" "$words"
+
+# ---- the subcommands: what lists them lists those of the help, and no others
+
+# lists_all NAME WORDS: the lines of this call's standard input are these words, whatever their order.
+lists_all() {
+    local wrong
+    wrong=$(diff <(echo "$2") <(sort) | sed -n 's/^< /no /p; s/^> /also /p' | tr '\n' ',')
+    if [[ ! $wrong ]]; then pass "$1"; else fail "$1" "$wrong"; fi
+}
+# between FROM TO FILE: the lines of a file from one that matches to the next one that matches.
+between() { sed -n "/$1/,/$2/p" "$root/$3"; }
+tr ' ' '\n' <<<"$_lotbook_words" | lists_all "lotbook.bash: the words" "$words"
+between '^_lotbook_options()' '^}' completions/lotbook.bash | sed -nE 's/^        ([a-z]+)\).*/\1/p' | lists_all "lotbook.bash: the words with options" "$words"
+between '^_lotbook_words()' '^}' completions/_lotbook | sed -nE "s/^        '([a-z]+):.*/\1/p" | lists_all "_lotbook: the words" "$words"
+sed -nE "s/^complete -c lotbook -n '__lotbook_word_is' -a ([a-z]+) .*/\1/p" "$root/completions/lotbook.fish" | lists_all "lotbook.fish: the words" "$words"
+sed -nE 's/.*contains -- \$token ([a-z ]+)$/\1/p' "$root/completions/lotbook.fish" | tr ' ' '\n' | lists_all "lotbook.fish: the words that a line may have" "$words"
+sed -nE "s/.*'__lotbook_word_is help' -a '([a-z ]+)'$/\1/p" "$root/completions/lotbook.fish" | tr ' ' '\n' | lists_all "lotbook.fish: the words of help" "$words"
+sed -nE 's/^\.SS ([a-z]+)$/\1/p' "$root/lotbook.1" | lists_all "lotbook.1: the words" "$words"
+
+# The pages name each but `help`, which says what they say.
+named=$(grep -vx help <<<"$words")
+between '^## Subcommands' '^## Two' README.md | grep -oE '`[a-z]+[` ]' | tr -d '` ' | sort -u | lists_all "README.md: the words" "$named"
+between '^| Subcommand and options' '^$' docs/RULES.md | sed -nE 's/^\| `([a-z]+) .*/\1/p' | lists_all "docs/RULES.md: the words" "$named"
+
+# Each has a help of its own.
+declare -A begun=()
+for word in $words; do
+    run help "$word" </dev/null
+    begins=$(head -n 1 "$scratch/out")
+    if ((status == 0)) && [[ $begins && ! ${begun[$begins]:-} ]] && grep -q "^Usage: lotbook $word " "$scratch/out"; then
+        pass "the help of $word is its own"
+    else
+        fail "the help of $word is its own" "status $status: it begins with '$begins'${begun[$begins]:+, as that of ${begun[$begins]} does}"
+    fi
+    begun[${begins:-none}]=$word
+done
+
+# ---- bash
+
 offers "the words" "$words" ""
 offers "the words of help" "$words" help ""
 offers "the words that begin so" $'import\ninit' i
@@ -52,7 +85,7 @@ offers "the codes that begin so" "$(grep '^B' <<<"$codes")" explain B
 offers "the option that begins so" "--batch" post --book f --ba
 
 # Files for --book and --profile, in both forms; no value is offered for other options.
-cd "$scratch" || exit 1
+mkdir "$scratch/books" && cd "$scratch/books" || exit 1
 touch family.book "a book" post
 offers "the books" $'a book\nfamily.book\npost' post --book ""
 offers "the books that begin so" "family.book" holdings --book fa

@@ -2,19 +2,12 @@
 # Holdings and gains as tables for a spreadsheet: ledgers drawn from seeds beside plain records in Python, whose sums are those of the
 # reports as text; faults that end a table, output that can't be written, words that can't be used, and a book of many sales, whose table
 # LibreOffice reads back where the machine has it. The session of tables is tests/reports/csv.session.
-if [[ -d /dev/shm && -w /dev/shm ]]; then export TMPDIR=/dev/shm; fi
-source "$(dirname "$(readlink -f "${BASH_SOURCE[0]}")")/lib/cases.sh"
+source "$(dirname "$(readlink -f "${BASH_SOURCE[0]}")")/lib/books.sh"
+in_memory
 need_program
 
 book=$scratch/family.book
-tables() { python3 -B "$root/tests/book/tables.py" "$@"; }
-header=entry,posting,account,commodity,units,acquired,sold,days_held,label,unit_cost,currency,proceeds,cost,gain
-
-# fresh: a new book.
-fresh() {
-    rm -f "$book"*
-    "$program" init --book "$book" </dev/null >/dev/null || fail "a new book" "it can't be made"
-}
+columns=entry,posting,account,commodity,units,acquired,sold,days_held,label,unit_cost,currency,proceeds,cost,gain
 
 # written NAME STATUS WORDS..: the table that the words ask for is what stands on this call's input.
 written() {
@@ -29,37 +22,23 @@ run_python tests/csv/compare.py "$program" "$scratch"
 
 # ---- words
 
-# unusable WORDS..: status 2, a message that names the option, and nothing on standard output.
-unusable() {
-    run "$@" </dev/null
-    if ((status == 2)) && [[ ! -s $scratch/out ]] && grep -qF -- "--format" "$scratch/err"; then
-        pass "words: $*"
-    else
-        fail "words: $*" "status $status, output '$(head -c 60 "$scratch/out")', message '$(head -c 120 "$scratch/err")'"
-    fi
-}
-fresh
+new_book "$book"
 for value in CSV tsv '' 'csv ' textcsv; do
-    unusable holdings --book "$book" "--format=$value"
-    unusable gains --book "$book" "--format=$value"
+    unusable --format holdings --book "$book" "--format=$value"
+    unusable --format gains --book "$book" "--format=$value"
 done
-unusable gains --book "$book" --format
-unusable gains --book "$book" --format csv --format csv
-unusable journal --book "$book" --format csv
+unusable --format gains --book "$book" --format
+unusable --format gains --book "$book" --format csv --format csv
+unusable --format journal --book "$book" --format csv
 
 # ---- an empty book, and files that are no book
 
-written "gains of an empty book" 0 gains <<<"$header"
+written "gains of an empty book" 0 gains <<<"$columns"
 written "holdings of an empty book" 0 holdings <<<"account,commodity,units,acquired,label,unit_cost,currency,cost"
 for word in holdings "holdings --day 2020-01-01" gains; do
     read -ra words <<<"$word"
-    echo "fault S1 NotABook" >"$scratch/wanted"
     run "${words[@]}" --book "$scratch/missing.book" --format csv </dev/null
-    if ((status == 4)) && cmp -s "$scratch/out" "$scratch/wanted"; then
-        pass "$word of a missing file"
-    else
-        fail "$word of a missing file" "status $status, $(head -n 1 "$scratch/out")"
-    fi
+    answers "$word of a missing file" 4 "fault S1 NotABook"
 done
 
 # ---- damage
@@ -83,12 +62,11 @@ cat >"$scratch/sales" <<'END'
 END
 sold="5,1,Assets:Broker,HOOL,-3,2020-01-01,2020-02-15,45,,100,USD,375.00,300.00,75.00"
 later="6,1,Assets:Broker,HOOL,-4,2020-01-01,2020-03-15,74,,100,USD,520.00,400.00,120.00"
-fresh
-"$program" post --book "$book" --batch a <"$scratch/sales" >/dev/null || fail "sales" "they aren't accepted"
-written "two sales" 0 gains <<<"$header"$'\n'"$sold"$'\n'"$later"
-sha256sum <"$book" >"$scratch/before"
+book_of "$book" a <"$scratch/sales" || fail "sales" "they aren't accepted"
+written "two sales" 0 gains <<<"$columns"$'\n'"$sold"$'\n'"$later"
+before=$(kept "$book")
 run gains --book "$book" --format csv </dev/null
-if sha256sum <"$book" | cmp -s - "$scratch/before"; then pass "a table leaves the book"; else fail "a table leaves the book" "it changed"; fi
+same "a table leaves the book" "$book" "$before"
 
 # damaged NAME SQL WORDS..: after the statement the table ends with `S7`, behind the first lines of what stands on this call's input.
 damaged() {
@@ -109,12 +87,12 @@ damaged() {
     fi
     rm -f "$book"* && cp "$scratch/kept" "$book"
 }
-damaged "a second sale of no kind" "UPDATE sale SET kind = 3 WHERE entry = 6" gains <<<"$header"$'\n'"$sold"
+damaged "a second sale of no kind" "UPDATE sale SET kind = 3 WHERE entry = 6" gains <<<"$columns"$'\n'"$sold"
 damaged "a first sale of no kind" "UPDATE sale SET kind = 3 WHERE entry = 5" gains </dev/null
-damaged "a second sale without its legs" "DELETE FROM leg WHERE entry = 6 AND posting = 1" gains <<<"$header"$'\n'"$sold"
+damaged "a second sale without its legs" "DELETE FROM leg WHERE entry = 6 AND posting = 1" gains <<<"$columns"$'\n'"$sold"
 damaged "a lot of no day" "UPDATE lot SET cost_day = 99999999" holdings </dev/null
 damaged "a price of no day" "UPDATE price SET day = 99999999" holdings --day 9999-12-31 </dev/null
-written "two sales after that" 0 gains <<<"$header"$'\n'"$sold"$'\n'"$later"
+written "two sales after that" 0 gains <<<"$columns"$'\n'"$sold"$'\n'"$later"
 
 # ---- a book of many sales
 
@@ -123,10 +101,9 @@ awk 'BEGIN {
     for (n = 0; n < 4000; n++) printf "2020-02-01 * \"Buy\"\n  Assets:Broker 1 HOOL {100.25 USD, \"a, %06d\"}\n  Assets:Cash\n", n
     for (n = 0; n < 600; n++) printf "2020-02-02 * \"Sell\"\n  Assets:Broker -3 HOOL {} @@ 391 USD\n  Assets:Cash 391 USD\n  Income:Gains\n"
 }' >"$scratch/many"
-fresh
-"$program" post --book "$book" --batch a <"$scratch/many" >"$scratch/out" || fail "many sales" "$(grep -m 1 -v accepted "$scratch/out")"
-awk -v header="$header" 'BEGIN {
-    print header
+book_of "$book" a <"$scratch/many" || fail "many sales" "$(grep -m 1 -v accepted "$scratch/posted")"
+awk -v columns="$columns" 'BEGIN {
+    print columns
     for (n = 0; n < 1800; n++) {
         share = n % 3 == 2 ? "130.33333334" : "130.33333333"
         gain = n % 3 == 2 ? "30.08333334" : "30.08333333"
@@ -156,23 +133,6 @@ fi
 
 for word in "holdings" "holdings --day 2020-12-31" gains; do
     read -ra words <<<"$word --format csv"
-    "$program" "${words[@]}" --book "$book" </dev/null 2>"$scratch/err" >/dev/full && status=0 || status=$?
-    stops "$word on a full disk"
-    "$program" "${words[@]}" --book "$book" </dev/null 2>"$scratch/err" >&- && status=0 || status=$?
-    stops "$word with standard output closed"
-    "$program" "${words[@]}" --book "$book" </dev/null >"$scratch/whole"
-    for bytes in 1 70 4097; do
-        { "$program" "${words[@]}" --book "$book" </dev/null 2>"$scratch/err" && echo 0 >"$scratch/status" || echo $? >"$scratch/status"; } |
-            head -c "$bytes" >"$scratch/taken"
-        status=$(<"$scratch/status")
-        stops "$word to a pipe that is closed after $bytes bytes"
-        if head -c "$bytes" "$scratch/whole" | cmp -s - "$scratch/taken"; then
-            pass "$word: the first $bytes bytes"
-        else
-            fail "$word: the first $bytes bytes" "$(head -c 100 "$scratch/taken")"
-        fi
-    done
-    run "${words[@]}" --book "$book" </dev/null
-    expect "$word after that" 0 "$scratch/whole"
+    cut_short "$word" "1 70 4097" "${words[@]}" --book "$book"
 done
 finish

@@ -1,18 +1,10 @@
 #!/usr/bin/env bash
 # Calls with --dry-run: each prints what the call without it prints of a copy of the files, with its status, and leaves every file of the
 # folder as it was: bytes, times, names.
-source "$(dirname "$(readlink -f "${BASH_SOURCE[0]}")")/lib/cases.sh"
+source "$(dirname "$(readlink -f "${BASH_SOURCE[0]}")")/lib/books.sh"
 need_program
 
-accounts=(--invest Assets:Broker --cash Assets:Cash --fees Expenses:Fees --gains Income:Gains)
 first=$examples/first-purchase.ledger
-tables() { python3 -B "$root/tests/book/tables.py" "$@"; }
-
-# state FOLDER: the files there, with their numbers, lengths, modes, times and bytes. Reading changes none of these.
-state() {
-    find "$1" -printf '%P %i %s %m %T@ %C@\n' | sort
-    find "$1" -type f -readable -exec sha256sum {} + | sort
-}
 
 # place NAME: an empty folder for a case, in which the book is to be.
 place() {
@@ -46,14 +38,13 @@ as() {
 
 printf '2020-01-31 open Assets:Euro EUR\n2020-01-01 open Assets:Broker\n2020-02-01 *\n  Assets:Euro 1 EUR\n' >"$scratch/mixed"
 printf '2020-01-31 open Assets:Euro EUR\n2020-13-01 open Assets:Pound\n' >"$scratch/faulty"
-{ echo ref,date,action,symbol,units,price,currency,fee && printf 'R-1,2020-02-0%d,BUY,HOOL,1,100,USD,\n' 3 2; } >"$scratch/rows.csv"
+{ echo "$header" && printf 'R-1,2020-02-0%d,BUY,HOOL,1,100,USD,\n' 3 2; } >"$scratch/rows.csv"
 printf '2020-01-01 open Expenses:Fees\n2020-01-01 open Income:Gains\n' >"$scratch/more"
 
 # ---- a book
 
 place book
-"$program" init --book "$book" </dev/null >/dev/null
-"$program" post --book "$book" --batch a <"$first" >/dev/null
+book_of "$book" a <"$first"
 "$program" post --book "$book" --batch accounts <"$scratch/more" >/dev/null
 dry "a batch that is there" "$first" post --batch a
 as "it is repeated" 0 "1 repeat"
@@ -78,10 +69,7 @@ dry "3,000 commands" "$scratch/many" post --batch many
 as "they are accepted" 0 "1 accepted"
 
 # What was committed and isn't copied into the book's file yet stands in the log.
-mkfifo "$scratch/slow"
-"$program" post --book "$book" --batch slow <"$scratch/slow" >"$scratch/posted" 2>&1 &
-exec 8>"$scratch/slow"
-until_open "$book"
+slow_call "$book" post --batch slow
 for _ in {1..100}; do # it has opened the file once nothing changes any more
     before=$(state "$home")
     sleep 0.1
@@ -93,8 +81,8 @@ cat "$scratch/many" >&8 && exec 8>&-
 wait
 if [[ $(grep -c ' accepted$' "$scratch/posted") == 3000 ]]; then pass "that program goes on"; else fail "that program goes on" "$(tail -n 1 "$scratch/posted")"; fi
 place killed
-"$program" init --book "$book" </dev/null >/dev/null
-(trap '' XFSZ && ulimit -f 600 && exec "$program" post --book "$book" --batch a <"$scratch/many") >/dev/null 2>&1 # it leaves a long log
+new_book "$book"
+limited 600 post --book "$book" --batch a <"$scratch/many" >/dev/null 2>&1 # it leaves a long log
 dry "a book with a long log" "$scratch/many" post --batch a
 as "what stands in the log is there" 0 "1 repeat"
 
@@ -107,7 +95,7 @@ dry "a faulty text on a missing file" "$scratch/faulty" post --batch a
 dry "migrating a missing file" /dev/null migrate
 dry "making a book" /dev/null init
 as "it could be made" 0 "book ready"
-if [[ ! -e $book ]]; then pass "it isn't made"; else fail "it isn't made" "there is a file"; fi
+no_file "it isn't made" "$book"
 book=$home/nowhere/family.book
 run init --book "$book" --dry-run </dev/null
 as "making a book in no folder" 4 "fault open"
@@ -150,12 +138,12 @@ mkdir "$book"
 dry "post on a folder" "$first" post --batch a
 as "it is no file" 4 "fault open"
 place second
-"$program" init --book "$book" </dev/null >/dev/null
+new_book "$book"
 ln "$book" "$home/other.book"
 dry "a file with a second name" "$first" post --batch a
 as "it isn't opened" 4 "fault open"
 place journal
-"$program" init --book "$book" </dev/null >/dev/null
+new_book "$book"
 echo journal >"$book-journal"
 dry "a file beside a journal" "$first" post --batch a
 as "it isn't opened" 4 "fault open"
@@ -173,49 +161,37 @@ as "it isn't taken up" 4 "fault S3 OlderEdition"
 dry "migrating a book of edition 1" /dev/null migrate
 as "it can be migrated" 0 "book migrated"
 place newer
-"$program" init --book "$book" </dev/null >/dev/null
+new_book "$book"
 tables edition "$book" 9
 dry "post on a book of edition 9" "$first" post --batch a
 as "it isn't taken up" 4 "fault S2 NewerEdition"
 dry "migrating it" /dev/null migrate
 
-# ---- without rights; root may do all, so root runs the program as nobody
+# ---- without rights
 
-chmod 755 "$scratch" && cp "$program" "$scratch/lotbook"
-cat >"$scratch/unprivileged" <<'END'
-#!/usr/bin/env python3
-import os, sys
-if os.getuid() == 0:
-    os.setgroups([])
-    os.setgid(65534)
-    os.setuid(65534)
-os.execv(os.path.join(os.path.dirname(sys.argv[0]), "lotbook"), ["lotbook", *sys.argv[1:]])
-END
-chmod +x "$scratch/unprivileged"
+without_rights
 place fixed
-"$program" init --book "$book" </dev/null >/dev/null
+new_book "$book"
 chmod 444 "$book" "$book-wal" && chmod 555 "$home"
 before=$(state "$home")
-program=$scratch/unprivileged prints "a book that may only be read" 0 $'1 accepted\n2 accepted\n3 accepted' \
+program=$unprivileged prints "a book that may only be read" 0 $'1 accepted\n2 accepted\n3 accepted' \
     post --book "$book" --batch a --dry-run <"$first"
 if [[ $(state "$home") == "$before" ]]; then pass "it is as it was"; else fail "it is as it was" "a file changed"; fi
 chmod 000 "$book"
-program=$scratch/unprivileged run post --book "$book" --batch a --dry-run <"$first"
+program=$unprivileged run post --book "$book" --batch a --dry-run <"$first"
 as "a book that may not be read" 4 "fault open"
 says "it says so" "lotbook: $book: no permission"
 
 # ---- output that can't be written
 
 place output
-"$program" init --book "$book" </dev/null >/dev/null
+new_book "$book"
 before=$(state "$home")
-"$program" post --book "$book" --batch a --dry-run <"$first" >/dev/full 2>"$scratch/err" && status=0 || status=$?
+run_full post --book "$book" --batch a --dry-run <"$first"
 stops "a full disk" "the output of a dry run is cut short"
-"$program" init --book "$home/other.book" --dry-run </dev/null >/dev/full 2>"$scratch/err" && status=0 || status=$?
+run_full init --book "$home/other.book" --dry-run </dev/null
 stops "making a book, with output to a full disk" "the output of a dry run is cut short"
-{ "$program" post --book "$book" --batch many --dry-run <"$scratch/many" 2>"$scratch/err" && echo 0 >"$scratch/status" || echo $? >"$scratch/status"; } |
-    head -n 20 >"$scratch/taken"
-status=$(<"$scratch/status")
+run_cut 200 post --book "$book" --batch many --dry-run <"$scratch/many"
 stops "a pipe that is closed in the middle" "the output of a dry run is cut short"
 "$program" post --book "$book" --batch slow --dry-run <"$scratch/slow" >"$scratch/out" 2>&1 &
 exec 8>"$scratch/slow"

@@ -1,22 +1,11 @@
 #!/usr/bin/env bash
 # `dump` and `verify --digest`: the dump of a book is its journal between two lines, of which the last holds the SHA-256 of all before it,
 # as `sha256sum` works it out; the digest of a book is that of its dump, and changes where a letter of the book does.
-# The books lie in memory where the machine has room for files there.
-if [[ -d /dev/shm && -w /dev/shm ]]; then export TMPDIR=/dev/shm; fi
-source "$(dirname "$(readlink -f "${BASH_SOURCE[0]}")")/lib/cases.sh"
+source "$(dirname "$(readlink -f "${BASH_SOURCE[0]}")")/lib/books.sh"
+in_memory
 need_program
 
 book=$scratch/family.book
-accounts=(--invest Assets:Broker --cash Assets:Cash --fees Expenses:Fees --gains Income:Gains)
-
-# fresh: a new book.
-fresh() {
-    rm -f "$book"*
-    "$program" init --book "$book" </dev/null >/dev/null 2>&1 || fail "a book for a case" "it can't be made"
-}
-
-# post BATCH: posts standard input to the book.
-post() { "$program" post --book "$book" --batch "$1" >"$scratch/posted" 2>/dev/null; }
 
 # expected PLACE: what the dump of the book has to be, by its journal.
 expected() {
@@ -33,68 +22,61 @@ expected() {
 dumps() {
     local before
     expected "$2"
-    before=$(sha256sum <"$book")
+    before=$(kept "$book")
     run dump --book "$book" </dev/null
     expect "$1: its dump" 0 "$scratch/expected"
     run verify --book "$book" --digest </dev/null
     expect "$1: its digest" 0 "$scratch/verified"
-    if [[ $(sha256sum <"$book") == "$before" ]]; then pass "$1: as it was"; else fail "$1: as it was" "the file changed"; fi
+    same "$1: as it was" "$book" "$before"
 }
 
 # ---- books
 
-fresh
+new_book "$book"
 dumps "a new book" 0
 for text in "$examples"/*.ledger "$root/tests/growths/every-kind.ledger"; do
-    fresh
-    post a <"$text"
+    book_of "$book" a <"$text"
     dumps "${text##*/}" 0
 done
-fresh
-printf '2020-01-01 open %s\n' Assets:Broker Assets:Cash Expenses:Fees Income:Gains | post a
+openings | book_of "$book" a
 for rows in "$examples"/broker/*.csv; do
     "$program" import --book "$book" --batch deals "${accounts[@]}" <"$rows" >"$scratch/posted" 2>/dev/null
     dumps "the rows of ${rows##*/}" 0
 done
-fresh
-seq -f '2020-01-01 open Assets:A%g' 5000 | post a
+seq -f '2020-01-01 open Assets:A%g' 5000 | book_of "$book" a
 dumps "5,000 accounts" 0
-for folder in "$root"/tests/migrate/*/; do
-    folder=${folder%/} name=${folder##*/}
-    if [[ ! -f $folder/book.gz ]]; then continue; fi # of Python
-    rm -f "$book"* && gzip -dc "$folder/book.gz" >"$book"
+for packed in "$root"/tests/migrate/*/book.gz; do
+    folder=${packed%/*} name=${folder##*/}
+    rm -f "$book"* && gzip -dc "$packed" >"$book"
     prints "$name: a dump before its migration" 4 "fault S3 OlderEdition" dump --book "$book" </dev/null
     prints "$name: a digest before its migration" 4 "fault S3 OlderEdition" verify --book "$book" --digest </dev/null
     "$program" migrate --book "$book" </dev/null >/dev/null 2>&1
     place=$("$program" journal --book "$book" </dev/null | grep -c '^; entry ')
     dumps "$name: behind its migration" "$place"
-    post later <"$folder/later.ledger"
+    "$program" post --book "$book" --batch later <"$folder/later.ledger" >"$scratch/posted" 2>/dev/null
     dumps "$name: with later sales" "$place"
 done
 
 # ---- a dump is ledger text, and says whether it was changed
 
-fresh
-post a <"$examples/year.ledger"
+book_of "$book" a <"$examples/year.ledger"
 "$program" dump --book "$book" </dev/null >"$scratch/dump"
 "$program" <"$examples/year.ledger" 2>/dev/null | grep -vE '^[0-9]+ (accepted|refused)' >"$scratch/held"
 "$program" <"$scratch/dump" 2>/dev/null | grep -v '^[0-9]* accepted' >"$scratch/held-again"
 if cmp -s "$scratch/held" "$scratch/held-again"; then pass "a dump is checked as ledger text"; else fail "a dump is checked as ledger text" "it holds other lots"; fi
 first=$("$program" verify --book "$book" --digest </dev/null | tail -n 1)
-sqlite() { python3 -B -c 'import sqlite3, sys; it = sqlite3.connect(sys.argv[1]); it.execute(sys.argv[2]); it.commit()' "$book" "$1"; }
-sqlite "UPDATE entry SET body = replace(body, 'of the old year', 'of the odd year') WHERE body LIKE '%of the old year%'"
+tables rows "$book" "UPDATE entry SET body = replace(body, 'of the old year', 'of the odd year') WHERE body LIKE '%of the old year%'"
 prints "a book with another narration is a book" 0 "book verified" verify --book "$book" </dev/null
 second=$("$program" verify --book "$book" --digest </dev/null | tail -n 1)
 if [[ ${first%% *} == "${second%% *}" && $first != "$second" ]]; then pass "a letter of a narration"; else fail "a letter of a narration" "$first and $second"; fi
 
 # ---- books that are damaged, and what is no book
 
-sqlite "DELETE FROM lot"
+tables rows "$book" "DELETE FROM lot"
 prints "no digest of a damaged book" 4 "fault S7 Damaged" verify --book "$book" --digest </dev/null
-fresh
-post a <"$examples/year.ledger"
+book_of "$book" a <"$examples/year.ledger"
 expected 0
-sqlite "UPDATE entry SET body = 'x' WHERE number = 3"
+tables rows "$book" "UPDATE entry SET body = 'x' WHERE number = 3"
 run dump --book "$book" </dev/null
 if ((status == 4)) && [[ $(tail -n 1 "$scratch/out") == "fault S7 Damaged" ]] &&
     head -n -1 "$scratch/out" | cmp -s - <(head -c "$(head -n -1 "$scratch/out" | wc -c)" "$scratch/expected"); then
@@ -102,17 +84,14 @@ if ((status == 4)) && [[ $(tail -n 1 "$scratch/out") == "fault S7 Damaged" ]] &&
 else
     fail "a damaged entry ends a dump behind those before it" "status $status, $(tail -n 1 "$scratch/out")"
 fi
-sqlite "DELETE FROM migration"
-run dump --book "$book" </dev/null
-printf 'fault S7 Damaged\n' >"$scratch/fault"
-expect "a book without a place of migration" 4 "$scratch/fault"
+tables rows "$book" "DELETE FROM migration"
+prints "a book without a place of migration" 4 "fault S7 Damaged" dump --book "$book" </dev/null
 prints "a missing file" 4 "fault S1 NotABook" dump --book "$scratch/none.book" </dev/null
-if [[ ! -e $scratch/none.book ]]; then pass "no file is made"; else fail "no file is made" "there is one"; fi
+no_file "no file is made" "$scratch/none.book"
 
 # ---- words and streams
 
-fresh
-post a <"$examples/year.ledger"
+book_of "$book" a <"$examples/year.ledger"
 for words in "dump" "dump --book" "dump --book $book --day 2020-01-01" "dump --book $book --dry-run" "dump --book $book more" "verify --book $book --digest yes"; do
     read -ra each <<<"$words"
     run "${each[@]}" </dev/null
@@ -120,9 +99,9 @@ for words in "dump" "dump --book" "dump --book $book --day 2020-01-01" "dump --b
 done
 for words in "dump --book $book" "verify --book $book --digest"; do
     read -ra each <<<"$words"
-    "$program" "${each[@]}" </dev/null 2>"$scratch/err" >/dev/full && status=0 || status=$?
+    run_full "${each[@]}" </dev/null
     stops "${words/$book/f}: output to a full disk"
-    "$program" "${each[@]}" </dev/null 2>"$scratch/err" >&- && status=0 || status=$?
+    run_closed "${each[@]}" </dev/null
     stops "${words/$book/f}: standard output closed"
 done
 finish

@@ -1,10 +1,8 @@
 #!/usr/bin/env bash
 # What `lotbook explain` says: held to the codes of docs/RULES.md, and each of its examples is run. The refused one gets exactly the code,
 # the accepted one none.
-source "$(dirname "$(readlink -f "${BASH_SOURCE[0]}")")/lib/cases.sh"
+source "$(dirname "$(readlink -f "${BASH_SOURCE[0]}")")/lib/books.sh"
 need_program
-
-accounts=(--invest Assets:Broker --cash Assets:Cash --fees Expenses:Fees --gains Income:Gains)
 
 # The codes of the pages, a line each: the code and its name. Those of dumps have their letter apart. Those without a code stand in the
 # paragraph behind the table.
@@ -32,20 +30,13 @@ example() {
     ' "$1"
 }
 
-# book FOLDER: a book there with the four accounts.
-book() {
-    "$program" init --book "$1/rows.book" </dev/null >/dev/null &&
-        printf '2019-01-01 open %s\n' Assets:Broker Assets:Cash Expenses:Fees Income:Gains |
-        "$program" post --book "$1/rows.book" --batch accounts >/dev/null
-}
-
 # answer KIND FILE: what the program writes of an example, on both streams.
 answer() {
     local folder=$scratch/example
     rm -rf "$folder" && mkdir "$folder" || return
     case $1 in
         "ledger text") "$program" <"$2" 2>&1 ;;
-        "a broker file") book "$folder" && "$program" import --book "$folder/rows.book" --batch deals "${accounts[@]}" <"$2" 2>/dev/null ;;
+        "a broker file") openings | book_of "$folder/rows.book" accounts && "$program" import --book "$folder/rows.book" --batch deals "${accounts[@]}" <"$2" 2>/dev/null ;;
         calls)
             ln -s "$program" "$folder/lotbook"
             sed 's/^\$ //' "$2" | (cd "$folder" && PATH=.:$PATH timeout 600 sh) 2>&1
@@ -137,8 +128,8 @@ for words in "L17 L1" "Ambigous Ambiguous" "unknownacount UnknownAccount" "x X1"
         fail "no code: $word" "status $status: $(head -c 200 "$scratch/err")"
     fi
 done
-"$program" explain </dev/null 2>"$scratch/err" >/dev/full && status=0 || status=$?
+run_full explain </dev/null
 stops "all codes on a full disk"
-"$program" explain B2 </dev/null 2>"$scratch/err" >/dev/full && status=0 || status=$?
+run_full explain B2 </dev/null
 stops "a code on a full disk"
 finish

@@ -2,11 +2,10 @@
 # Truncated and malicious input, a sample of it: texts and broker files that are cut, changed by a byte, or as long as may be; streams
 # that come in pieces, fail, grow, end or are closed; files that are no book, books that someone changed; words and paths of every kind.
 # Each sweep is one line, with its counts. Python's scripts in tests/hostile/ say what is asked of each; tests/whole/hostile.sh runs all.
-# The books lie in memory where the machine has room for files there.
 #
 #   tests/hostile.sh [--whole]
-if [[ -d /dev/shm && -w /dev/shm ]]; then export TMPDIR=/dev/shm; fi
 source "$(dirname "$(readlink -f "${BASH_SOURCE[0]}")")/lib/cases.sh"
+in_memory
 need_program
 
 chmod 755 "$scratch" # some calls are made by a user who may do less

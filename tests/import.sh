@@ -3,20 +3,14 @@
 # for byte, and ends with status 3 after a fault, 1 where a row was refused, else 0. Each file begins with a new book, on which
 # the accounts of `openings.ledger` are open; the files of a folder are imported into one book, in the order of their names.
 # Where there is a NAME.holdings, that is what is held then.
-source "$(dirname "$(readlink -f "${BASH_SOURCE[0]}")")/lib/cases.sh"
+source "$(dirname "$(readlink -f "${BASH_SOURCE[0]}")")/lib/books.sh"
 need_program
 
 shopt -s nullglob
 book=$scratch/family.book
-accounts=(--invest Assets:Broker --cash Assets:Cash --fees Expenses:Fees --gains Income:Gains)
 
 # begin LEDGER: a new book on which the ledger is posted.
-begin() {
-    rm -f "$book"*
-    if ! "$program" init --book "$book" >/dev/null || ! "$program" post --book "$book" --batch openings <"$1" >/dev/null; then
-        fail "a new book" "it can't be made, or the accounts can't be opened"
-    fi
-}
+begin() { book_of "$book" openings <"$1" || fail "a new book" "the accounts can't be opened"; }
 
 # import WORDS..: imports this call's standard input.
 import() { run import --book "$book" --batch x "${accounts[@]}" "$@"; }
@@ -35,14 +29,14 @@ holds() {
     expect "what is held after $1" 0 "$2"
 }
 
-openings=$root/tests/import/openings.ledger
+ledger=$root/tests/import/openings.ledger
 cases=("$root"/tests/import/*.csv "$root"/tests/import/*/)
 for case in "${cases[@]}"; do
     case=${case%/} name=${case##*/}
     name=${name%.csv}
     files=("$case")
     if [[ -d $case ]]; then files=("$case"/*.csv); fi
-    begin "$openings"
+    begin "$ledger"
     for file in "${files[@]}"; do
         part=${file##*/}
         imports "$name: ${part%.csv}" "$file"
@@ -62,121 +56,110 @@ for file in "$examples"/broker/*.csv; do
 done
 holds "the example" "$examples/broker/holdings.expected"
 
-# answers NAME STATUS TEXT: the last import ended with STATUS and wrote the lines of TEXT, or nothing.
-answers() {
-    printf '%s' "${3:+$3$'\n'}" >"$scratch/expected"
-    expect "$1" "$2" "$scratch/expected"
-}
-
-header=ref,date,action,symbol,units,price,currency,fee
 row=A1,2020-01-02,BUY,HOOL,1,100,USD,
 inexact=A0,2020-01-02,BUY,HOOL,0.00000001,0.1,USD,
 rows() { yes "$row" | head -n "$1"; }
 
 # Rows that are skipped.
-begin "$openings"
+begin "$ledger"
 printf '%s\n' "$header" "$row" "A2${row#A1}" | import --from 2
-answers "the first row is skipped" 0 "2 accepted"
+wrote "the first row is skipped" 0 "2 accepted"
 printf '%s\n' "$header" "$row" | import --from 2
-answers "all rows are skipped" 0 ""
+wrote "all rows are skipped" 0 ""
 printf '%s\n' "$header" "$row," "$row" | import --from 2
-answers "a faulty row that is skipped" 3 "fault row 1 C2 BadRow Length"
+wrote "a faulty row that is skipped" 3 "fault row 1 C2 BadRow Length"
 printf '%s\n' "$header" "$inexact" "$row" | import --from 2
-answers "an inexact row that is skipped" 3 "fault row 1 C4 InexactAmount"
+wrote "an inexact row that is skipped" 3 "fault row 1 C4 InexactAmount"
 printf '%s\n' "$header" "$row" "A2${row#A1}" | import
-answers "faults of skipped rows applied nothing" 0 $'1 accepted\n2 repeat'
+wrote "faults of skipped rows applied nothing" 0 $'1 accepted\n2 repeat'
 printf '%s\n' "$header" "$row" "A2${row#A1}" |
     run import --gains Income:Gains --from 2 --fees Expenses:Fees --cash Assets:Cash --invest Assets:Broker --batch=x --book="$book"
-answers "the options in another order" 0 "2 repeat"
+wrote "the options in another order" 0 "2 repeat"
 
 # Rows that are left out. Those that are left keep their numbers; a row that is left out may have a cash that no row can have.
-begin "$openings"
+begin "$ledger"
 printf '%s\n' "$header" "$row" "A2${row#A1}" "A3${row#A1}" >"$scratch/three"
 import --except A2 <"$scratch/three"
-answers "a row that is left out" 0 $'1 accepted\n3 accepted'
+wrote "a row that is left out" 0 $'1 accepted\n3 accepted'
 says "it says so" "lotbook: row 2 \(A2\): left out: A2,2020-01-02,BUY,HOOL,1,100,USD,"
 import --except A3 --all-or-none --except=A1 <"$scratch/three"
-answers "two rows that are left out, of all or none" 0 "2 accepted"
+wrote "two rows that are left out, of all or none" 0 "2 accepted"
 import --from 2 --except A2 <"$scratch/three"
-answers "a row that is left out behind one that is skipped" 0 "3 repeat"
+wrote "a row that is left out behind one that is skipped" 0 "3 repeat"
 import --from 3 --except A2 <"$scratch/three"
-answers "a row that is skipped and left out" 0 "3 repeat"
+wrote "a row that is skipped and left out" 0 "3 repeat"
 if [[ ! -s $scratch/err ]]; then pass "nothing is said of it"; else fail "nothing is said of it" "$(head -n 1 "$scratch/err")"; fi
 import --except A1 --except A2 --except A3 --all-or-none <"$scratch/three"
-answers "all rows are left out" 0 ""
+wrote "all rows are left out" 0 ""
 import --except a2 <"$scratch/three"
-answers "a ref that no row has" 0 $'1 repeat\n2 repeat\n3 repeat'
+wrote "a ref that no row has" 0 $'1 repeat\n2 repeat\n3 repeat'
 says "it says that, too" "lotbook: no row has the ref a2"
 printf '%s\n' "$header" "$row" "A2${row#A1}" "$row" | import --except A1 --all-or-none
-answers "two rows of one ref that are left out" 0 "2 repeat"
+wrote "two rows of one ref that are left out" 0 "2 repeat"
 printf 'lotbook: row %d (A1): left out: '"$row"'\n' 1 3 | cmp -s - "$scratch/err" && pass "both are named" || fail "both are named" "$(tail -n 1 "$scratch/err")"
 printf '%s\n' "$header" "$inexact" "$row" | import --except A0 --all-or-none
-answers "an inexact row that is left out" 0 "2 repeat"
+wrote "an inexact row that is left out" 0 "2 repeat"
 printf '%s\n' "$header" "$inexact" "$row" | import --except A1
-answers "an inexact row beside one that is left out" 3 "fault row 1 C4 InexactAmount"
+wrote "an inexact row beside one that is left out" 3 "fault row 1 C4 InexactAmount"
 printf '%s\n' "$header" "A4,2020-01-32,BUY,HOOL,1,100,USD," "$row" | import --except A4
-answers "a faulty row that is left out" 3 "fault row 1 C2 BadRow Date"
+wrote "a faulty row that is left out" 3 "fault row 1 C2 BadRow Date"
 printf '%s\n' "$header" "A5,2020-01-02,BUY,HOOL,1,100,NO," "A6,2020-01-02,SELL,HOOL,9,1,USD," "A7${row#A1}" | import --except A5 --all-or-none
-answers "a refusal behind a row that is left out" 1 $'2 refused B3 NotEnough posting 1\n3 accepted'
+wrote "a refusal behind a row that is left out" 1 $'2 refused B3 NotEnough posting 1\n3 accepted'
 printf '%s\n' "$header" "A7${row#A1}" | import
-answers "nothing of it was kept" 0 "1 accepted"
+wrote "nothing of it was kept" 0 "1 accepted"
 
 # A lot whose row in one of the two tables is gone.
-begin "$openings"
+begin "$ledger"
 printf '%s\n' "$header" "$row" | import
-answers "a purchase" 0 "1 accepted"
-python3 -B "$root/tests/book/tables.py" rows "$book" "DELETE FROM opening"
+wrote "a purchase" 0 "1 accepted"
+tables rows "$book" "DELETE FROM opening"
 printf '%s\n' "$header" "$row" "A2,2020-01-03,SELL,HOOL,1,100,USD," | import --from 2
-answers "a sale from a lot without its opening number" 4 "2 fault S7 Damaged"
+wrote "a sale from a lot without its opening number" 4 "2 fault S7 Damaged"
 
-begin "$openings"
+begin "$ledger"
 printf '%s\n' "$header" "$row" | import
-answers "the purchase in a new book" 0 "1 accepted"
+wrote "the purchase in a new book" 0 "1 accepted"
 
 # Long files.
 { echo "$header" && rows 100000; } | import --from 100000
-answers "100,000 rows" 0 "100000 repeat"
+wrote "100,000 rows" 0 "100000 repeat"
 { echo "$header" && rows 100000 && echo x; } | import
-answers "a row too many" 3 "fault C3 TooManyRows"
+wrote "a row too many" 3 "fault C3 TooManyRows"
 { echo "$header,lot" && rows 100000 | sed 's/$/,/'; } | import --from 100000
-answers "100,000 rows of version 2" 0 "100000 repeat"
+wrote "100,000 rows of version 2" 0 "100000 repeat"
 { echo "$header,lot" && rows 100001 | sed 's/$/,/'; } | import
-answers "a row too many of version 2" 3 "fault C3 TooManyRows"
+wrote "a row too many of version 2" 3 "fault C3 TooManyRows"
 { echo "$header" && echo "$inexact" && rows 100000; } | import
-answers "a row too many behind an inexact row" 3 "fault C3 TooManyRows"
+wrote "a row too many behind an inexact row" 3 "fault C3 TooManyRows"
 { echo "$header" && rows 99999 && echo x && rows 1; } | import
-answers "a faulty row before the row too many" 3 "fault row 100000 C2 BadRow Length"
+wrote "a faulty row before the row too many" 3 "fault row 100000 C2 BadRow Length"
 { echo "$header" && head -c 1000000 /dev/zero | tr '\0' A && echo "${row#A1}"; } | import
-answers "a reference of a million bytes" 3 "fault row 1 C2 BadRow Ref"
+wrote "a reference of a million bytes" 3 "fault row 1 C2 BadRow Ref"
 { echo "$header" && printf 'A3,2020-01-02,BUY,HOOL,' && head -c 1000000 /dev/zero | tr '\0' 0 && echo 1,100,USD,; } | import
-answers "units of a million digits" 0 "1 accepted"
+wrote "units of a million digits" 0 "1 accepted"
 { echo "$header" && printf 'A3,2020-01-02,BUY,HOOL,1.' && head -c 1000000 /dev/zero | tr '\0' 0 && echo ,100,USD,; } | import
-answers "units of a million decimals, the same" 0 "1 repeat"
+wrote "units of a million decimals, the same" 0 "1 repeat"
 
 # What comes first: a file that can't be opened, then a fault of the input, then one of the book.
 rm -f "$book"*
 printf '%s\n' "$header" "$row" | import
-answers "no book" 4 "fault S1 NotABook"
+wrote "no book" 4 "fault S1 NotABook"
 printf '%s\n' "$row" | import
-answers "a faulty file and no book" 3 "fault header C1 BadHeader"
-if [[ ! -e $book ]]; then pass "no book is left"; else fail "no book is left" "there is a file"; fi
-python3 -B "$root/tests/book/tables.py" foreign "$book" notes
+wrote "a faulty file and no book" 3 "fault header C1 BadHeader"
+no_file "no book is left" "$book"
+tables foreign "$book" notes
 printf '%s\n' "$header" "$row" | import
-answers "another database" 4 "fault S1 NotABook"
+wrote "another database" 4 "fault S1 NotABook"
 printf '%s\n' "$header" "$row" "$inexact" | import
-answers "a faulty file and another database" 3 "fault row 2 C4 InexactAmount"
+wrote "a faulty file and another database" 3 "fault row 2 C4 InexactAmount"
 rm -f "$book"*
-python3 -B "$root/tests/book/tables.py" older "$book"
+tables older "$book"
 printf '%s\n' "$header" "$row" | import
 older "a book of edition 1"
 printf '%s\n' "$header" "$row" "$inexact" | import
-answers "a faulty file and a book of edition 1" 3 "fault row 2 C4 InexactAmount"
+wrote "a faulty file and a book of edition 1" 3 "fault row 2 C4 InexactAmount"
 rm -f "$book"*
 echo "no database" >"$book"
 printf '%s\n' "$row" | import
-if ((status == 4)) && [[ $(<"$scratch/out") == "fault open" && -s $scratch/err ]]; then
-    pass "a faulty file and a file that is no database"
-else
-    fail "a faulty file and a file that is no database" "status $status, $(head -n 1 "$scratch/out")"
-fi
+unopened "a faulty file and a file that is no database"
 finish

@@ -2,6 +2,7 @@
 # tools/install: what it installs, and where; and the man page, which has each word and each option of the program's help. That the page
 # is what tools/words.py writes is a case of tests/generated.sh.
 source "$(dirname "$(readlink -f "${BASH_SOURCE[0]}")")/lib/cases.sh"
+source "$root/tests/lib/words.sh"
 need_program
 
 # ---- what is installed
@@ -49,12 +50,12 @@ page=$root/lotbook.1
 plain() { sed -E 's/\\f[BIR]//g; s/\\-/-/g; s/\\\(aq/'"'"'/g; s/\\e/\\/g; s/^\\&//' "$page"; }
 plain >"$scratch/page"
 missing=""
-for word in "" $("$program" -h | sed -n '/^Commands:/,/^$/p' | sed -nE 's/^  ([a-z]+) .*/\1/p'); do
+for word in "" $(words_in_help); do
     [[ ! $word ]] || grep -qxF -- ".SS $word" "$scratch/page" || missing+=" $word"
     [[ $word != help ]] || continue
     # The options of the word stand in its part of the page.
     awk -v word="$word" '/^\.S[SH] / { on = $0 == (word == "" ? ".SH OPTIONS" : ".SS " word) } on' "$scratch/page" >"$scratch/part"
-    for option in $("$program" $word -h | sed -nE 's/^ +(-[A-Za-z], )?(--[a-z-]+).*/\2/p'); do
+    for option in $(options_in_help $word); do
         grep -qE -- "^(-[hV], )?$option( [A-Z-]+)?$" "$scratch/part" || missing+=" $word $option"
     done
 done

@@ -6,35 +6,12 @@
 # Of each of the three, in a folder of tests/migrate/: book.gz is its file, posts/ the texts that it was made of, holdings, values, gains
 # and journal what that program printed; openings the opening numbers of its lots; later.ledger is posted behind the migration, with the
 # later.* that is then printed; again.* is printed where the journal is posted to a new book, if that isn't as before.
-if [[ -d /dev/shm && -w /dev/shm ]]; then export TMPDIR=/dev/shm; fi
-source "$(dirname "$(readlink -f "${BASH_SOURCE[0]}")")/lib/cases.sh"
+source "$(dirname "$(readlink -f "${BASH_SOURCE[0]}")")/lib/books.sh"
+in_memory
 need_program
 
 stored=$root/tests/migrate
 book=$scratch/family.book new=$scratch/new.book
-tables() { python3 -B "$root/tests/book/tables.py" "$@"; }
-accounts=(--invest Assets:Broker --cash Assets:Cash --fees Expenses:Fees --gains Income:Gains)
-
-# kept FILE: the bytes of a file and of the log beside it. A log shorter than a page holds no commit.
-kept() {
-    sha256sum <"$1"
-    if [[ -f $1-wal ]] && (($(stat -c %s "$1-wal") >= 4096)); then sha256sum <"$1-wal"; fi
-}
-
-# same NAME BEFORE: the file of the book is what `kept` found before.
-same() { if [[ $(kept "$book") == "$2" ]]; then pass "$1"; else fail "$1" "the file changed"; fi; }
-
-# shows NAME FILE WORDS..: tables.py prints the lines of FILE.
-shows() {
-    tables "${@:3}" >"$scratch/shown" 2>&1
-    if cmp -s "$2" "$scratch/shown"; then pass "$1"; else fail "$1" "$(diff "$2" "$scratch/shown" | head -n 4 | tr '\n' '|')"; fi
-}
-
-# made FILE: a new book is made there, as a step of a case.
-made() {
-    rm -f "$1"*
-    "$program" init --book "$1" </dev/null >/dev/null 2>&1 || fail "a book for a case" "$1"
-}
 
 # replies WORD COUNT: so many lines, numbered from 1.
 replies() { if (($2)); then seq -f "%g $1" "$2"; fi; }
@@ -74,7 +51,7 @@ elsewhere() {
     count=$(grep -c '^; entry ' "$2/journal")
     replies accepted "$count" >"$told"
     if [[ -f $2/again.replies ]]; then told=$2/again.replies held=$2/again.holdings wanted=1; fi
-    made "$scratch/again.book"
+    new_book "$scratch/again.book"
     run post --book "$scratch/again.book" --batch again <"$2/journal"
     expect "$1: its journal on a new book" "$wanted" "$told"
     run holdings --book "$scratch/again.book" </dev/null
@@ -83,30 +60,29 @@ elsewhere() {
 
 # ---- books of the last program of edition 1
 
-made "$new"
-for folder in "$stored"/*/; do
-    folder=${folder%/} name=${folder##*/}
-    if [[ ! -f $folder/book.gz ]]; then continue; fi # of Python
+new_book "$new"
+for packed in "$stored"/*/book.gz; do
+    folder=${packed%/*} name=${folder##*/}
     rm -f "$book"*
-    if ! gzip -dc "$folder/book.gz" >"$book"; then fail "$name" "it can't be unpacked" && continue; fi
+    if ! gzip -dc "$packed" >"$book"; then fail "$name" "it can't be unpacked" && continue; fi
     cp "$book" "$scratch/first.book"
     before=$(kept "$book")
     for words in holdings "holdings --day 2024-12-31" gains journal "post --batch b" "import --batch b ${accounts[*]}"; do
         read -ra each <<<"$words"
-        if [[ $words == import* ]]; then echo ref,date,action,symbol,units,price,currency,fee; fi |
+        if [[ $words == import* ]]; then echo "$header"; fi |
             run "${each[0]}" --book "$book" "${each[@]:1}"
         older "$name: ${words%% --inv*}"
     done
     prints "$name: init" 4 "fault S1 NotABook" init --book "$book" </dev/null
-    same "$name: it is as it was" "$before"
+    same "$name: it is as it was" "$book" "$before"
 
     prints "$name: migrate" 0 "book migrated" migrate --book "$book" </dev/null
     run_python tests/migrate/compare.py "$name" "$scratch/first.book" "$book" "$new"
-    shows "$name: the opening numbers" "$folder/openings" openings "$book"
+    shows "$name: the opening numbers" "$(<"$folder/openings")" openings "$book"
     reports "$name" "$folder"
     before=$(kept "$book")
     prints "$name: migrate again" 0 "book migrated" migrate --book "$book" </dev/null
-    same "$name: nothing changes" "$before"
+    same "$name: nothing changes" "$book" "$before"
     sent "$name" "$folder" repeat
     reports "$name, sent again" "$folder"
     elsewhere "$name" "$folder"
@@ -119,40 +95,25 @@ for folder in "$stored"/*/; do
     expect "$name: the gains then" 0 "$folder/later.gains"
     run holdings --book "$book" </dev/null
     expect "$name: the holdings then" 0 "$folder/later.holdings"
-    tables numbered "$book" >"$scratch/numbered"
-    shows "$name: the opening numbers then" "$scratch/numbered" openings "$book"
-    shows "$name: the place of migration then" <(grep -c '^; entry ' "$folder/journal") rows "$book" "SELECT entries FROM migration"
+    shows "$name: the opening numbers then" "$(tables numbered "$book")" openings "$book"
+    shows "$name: the place of migration then" "$(grep -c '^; entry ' "$folder/journal")" rows "$book" "SELECT entries FROM migration"
     before=$(kept "$book")
     prints "$name: migrate behind them" 0 "book migrated" migrate --book "$book" </dev/null
-    same "$name: nothing changes behind them" "$before"
+    same "$name: nothing changes behind them" "$book" "$before"
 done
 
 # ---- a sale that edition 1 made of the lot by key, and one that edition 2 makes of the lot that was opened first
 
-cat >"$scratch/batch-a" <<'TEXT'
-2020-01-01 open Assets:Broker "FIFO"
-2020-01-01 open Assets:Cash
-2020-01-01 open Income:Gains
-2020-01-01 open Equity:Start
-2020-01-02 *
-  Assets:Broker 5 HOOL {100 USD, "b"}
-  Equity:Start
-2020-01-02 *
-  Assets:Broker 5 HOOL {100 USD, "a"}
-  Equity:Start
-2020-01-03 *
-  Assets:Broker -1 HOOL {}
-  Assets:Cash
-TEXT
+{ two_lots && printf '2020-01-03 *\n  Assets:Broker -1 HOOL {}\n  Assets:Cash\n'; } >"$scratch/batch-a"
 for method in FIFO LIFO HIFO; do
     rm -f "$book"*
     tables older "$book"
     tables rows "$book" "UPDATE account SET method = '$method' WHERE name = 'Assets:Broker'"
     tables rows "$book" "UPDATE entry SET body = replace(body, 'FIFO', '$method') WHERE number = 1"
     prints "$method: migrate" 0 "book migrated" migrate --book "$book" </dev/null
-    printf '%s\n' 'Assets:Broker HOOL {100 USD, 2020-01-02, "a"} 321' 'Assets:Broker HOOL {100 USD, 2020-01-02, "b"} 257' >"$scratch/numbers"
-    shows "$method: the opening numbers" "$scratch/numbers" openings "$book"
-    shows "$method: the place of migration" <(echo 7) rows "$book" "SELECT entries FROM migration"
+    numbers=$'Assets:Broker HOOL {100 USD, 2020-01-02, "a"} 321\nAssets:Broker HOOL {100 USD, 2020-01-02, "b"} 257'
+    shows "$method: the opening numbers" "$numbers" openings "$book"
+    shows "$method: the place of migration" 7 rows "$book" "SELECT entries FROM migration"
     prints "$method: a sale" 0 "1 accepted" post --book "$book" --batch b <<'TEXT'
 2020-01-04 *
   Assets:Broker -1 HOOL {}
@@ -166,7 +127,7 @@ TEXT
     sed "s/FIFO/$method/; s/-1 HOOL/-2 HOOL/" "$scratch/batch-a" | run post --book "$book" --batch a
     { replies repeat 6 && echo "7 refused L1 KeyReused"; } >"$scratch/expected"
     expect "$method: the batch again with another sale" 1 "$scratch/expected"
-    made "$scratch/again.book"
+    new_book "$scratch/again.book"
     "$program" journal --book "$book" </dev/null >"$scratch/journal"
     prints "$method: the journal on a new book" 0 "$(replies accepted 8)" post --book "$scratch/again.book" --batch again <"$scratch/journal"
     prints "$method: there both sales take b" 0 'Assets:Broker 5 HOOL {100 USD, 2020-01-02, "a"}
@@ -174,34 +135,27 @@ Assets:Broker 3 HOOL {100 USD, 2020-01-02, "b"}
 Assets:Cash 200.00 USD
 Equity:Start -1000.00 USD
 total cost 800.00 USD' holdings --book "$scratch/again.book" </dev/null
-    shows "$method: there nothing was migrated" <(echo 0) rows "$scratch/again.book" "SELECT entries FROM migration"
+    shows "$method: there nothing was migrated" 0 rows "$scratch/again.book" "SELECT entries FROM migration"
 done
 
 # ---- files of every kind, and what is refused
 
 run_python tests/migrate/files.py "$program" "$scratch"
-made "$book"
+new_book "$book"
 before=$(kept "$book")
 prints "a new book of edition 2" 0 "book migrated" migrate --book "$book" </dev/null
-same "a new book of edition 2 is as it was" "$before"
+same "a new book of edition 2 is as it was" "$book" "$before"
 tables edition "$book" 1 # the tables are there, so their names are taken
 before=$(kept "$book")
 prints "a book of edition 2 that says 1" 4 "fault S1 NotABook" migrate --book "$book" </dev/null
-same "a book of edition 2 that says 1 is as it was" "$before"
+same "a book of edition 2 that says 1 is as it was" "$book" "$before"
 
 # Another program that has the file open: a post reads its whole input before it looks at the edition.
 first() { rm -f "$book"* && tables older "$book"; }
 first
-mkfifo "$scratch/slow"
-"$program" post --book "$book" --batch b <"$scratch/slow" >"$scratch/posted" 2>&1 &
-exec 8>"$scratch/slow"
-until_open "$book"
+slow_call "$book" post --batch b
 run migrate --book "$book" </dev/null
-if ((status == 4)) && [[ $(<"$scratch/out") == "fault open" && -s $scratch/err ]]; then
-    pass "a book that is open in another program"
-else
-    fail "a book that is open in another program" "status $status, $(head -n 1 "$scratch/out")"
-fi
+unopened "a book that is open in another program"
 exec 8>&-
 wait
 if grep -qx "fault S3 OlderEdition" "$scratch/posted"; then
@@ -213,15 +167,6 @@ prints "and then it is migrated" 0 "book migrated" migrate --book "$book" </dev/
 
 # ---- words
 
-# unusable TEXT WORDS..: status 2, and a message with this text on standard error alone.
-unusable() {
-    run "${@:2}" </dev/null
-    if ((status == 2)) && [[ ! -s $scratch/out ]] && grep -qF -- "$1" "$scratch/err"; then
-        pass "words: ${*:2}"
-    else
-        fail "words: ${*:2}" "status $status, output '$(head -c 60 "$scratch/out")', message '$(head -c 120 "$scratch/err")'"
-    fi
-}
 unusable "--book" migrate
 unusable "--book" migrate --book
 unusable "--batch" migrate --book f --batch a
@@ -231,22 +176,20 @@ unusable "--book" migrate --book f --book g
 
 first
 mkfifo "$scratch/nothing" && exec 7<>"$scratch/nothing" # an input of which no byte ever comes
-timeout 600 "$program" migrate --book "$book" <&7 >"$scratch/out" 2>"$scratch/err" && status=0 || status=$?
-echo "book migrated" >"$scratch/expected"
-expect "its input isn't waited for" 0 "$scratch/expected"
+prints "its input isn't waited for" 0 "book migrated" migrate --book "$book" <&7
 
 # migrated NAME: the call before ended with status 4 and no message, and the book is migrated.
 migrated() {
     stops "$1" "the book is migrated"
-    shows "$1: it is of edition 2" <(echo 2) rows "$book" "SELECT edition FROM book"
-    shows "$1: the opening numbers" "$scratch/numbers" openings "$book"
+    shows "$1: it is of edition 2" 2 rows "$book" "SELECT edition FROM book"
+    shows "$1: the opening numbers" "$numbers" openings "$book"
     prints "$1: migrate again" 0 "book migrated" migrate --book "$book" </dev/null
 }
 first
-"$program" migrate --book "$book" </dev/null 2>"$scratch/err" >/dev/full && status=0 || status=$?
+run_full migrate --book "$book" </dev/null
 migrated "output to a full disk"
 first
-"$program" migrate --book "$book" </dev/null 2>"$scratch/err" >&- && status=0 || status=$?
+run_closed migrate --book "$book" </dev/null
 migrated "standard output closed"
 first
 mkfifo "$scratch/pipe"

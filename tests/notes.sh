@@ -1,19 +1,13 @@
 #!/usr/bin/env bash
 # What standard error says of refused commands, of faults and of what may have been meant otherwise. Standard output and the status are
 # those of the same call with --quiet, which says nothing there.
-source "$(dirname "$(readlink -f "${BASH_SOURCE[0]}")")/lib/cases.sh"
+source "$(dirname "$(readlink -f "${BASH_SOURCE[0]}")")/lib/books.sh"
 need_program
 
-accounts=(--invest Assets:Broker --cash Assets:Cash --fees Expenses:Fees --gains Income:Gains)
 book=$scratch/noted.book
 
 # opened: a new book with four accounts.
-opened() {
-    rm -f "$book"*
-    "$program" init --book "$book" </dev/null >/dev/null 2>&1 &&
-        printf '2019-01-01 open %s\n' Assets:Broker Assets:Cash Expenses:Fees Income:Gains |
-        "$program" post --book "$book" --batch accounts >/dev/null 2>&1 || fail "a book for a case" "it can't be made"
-}
+opened() { openings | book_of "$book" accounts || fail "a book for a case" "its accounts can't be opened"; }
 
 # notes NAME STATUS WORDS..: the call on the file `in` ends with that status and says exactly what the file `told` has; with --quiet it
 # says nothing, and answers the same.
@@ -606,7 +600,7 @@ printf '2024-01-02 * "Buy"\n  Assets:Broker 3 HOOL {500 USD}\n  Assets:Cash\n202
 fact='line 5, command 2: B3 NotEnough: the lots that fit hold less than the units: held now: 3; wanted: 5: Assets:Broker -5 HOOL {}'
 echo "lotbook: $fact" >"$scratch/told"
 notes "facts of a dry run" 1 "${post[@]}" --dry-run
-echo "lotbook: $book: nothing is kept, since not all was accepted: entries and lots are named above as the call would have made them" >>"$scratch/told"
+echo "lotbook: $book: $nothing_kept" >>"$scratch/told"
 notes "facts of a call that keeps all or nothing" 1 "${post[@]}" --all-or-none
 
 # They are of the book that all its commands had made: an account, a lot and an entry that aren't kept.
@@ -634,7 +628,7 @@ END
     echo 'lotbook: line 10, command 5: L10 BackDated: a later day of this account and commodity is booked at cost already: the latest is 2024-02-03, of entry 8: Assets:Depot 1 HOOL {490 USD}'
     echo "lotbook: line 16, command 7: B2 Ambiguous: several lots fit the braces, and STRICT doesn't choose among them: lots that fit now: 2, with 7 units; they differ in day, cost: Assets:Depot -2 HOOL {}"
     echo 'lotbook: line 18: warning: the account is closed, and still holds USD: 2024-02-04 close Assets:Money'
-    echo "lotbook: $book: nothing is kept, since not all was accepted: entries and lots are named above as the call would have made them"
+    echo "lotbook: $book: $nothing_kept"
 } >"$scratch/told"
 notes "facts of what isn't kept" 1 "${post[@]}" --all-or-none
 
@@ -662,7 +656,7 @@ if ((status == 1)) && cmp -s "$scratch/told" "$scratch/err"; then pass "an entry
 printf 'ref,date,action,symbol,units,price,currency,fee\nD-1,2024-01-15,BUY,HOOL,0.3333,101.12345,USD,\nD-2,2024-01-15,BUY,HOOL,2,10.002,USD,\n' >"$scratch/in"
 printf 'lotbook: %s\n' "row 1: Income:Gains takes -0.004445885 USD" "row 2: Income:Gains takes -0.004 USD" "Income:Gains takes -0.008445885 USD, of 2 rows" >"$scratch/told"
 notes "crumbs of rows" 0 "${import[@]}" "${rounding[@]}" --decimals 2
-{ echo ref,date,action,symbol,units,price,currency,fee && seq -f 'D-%g,2024-01-15,BUY,HOOL,2,10.002,USD,' 12; } >"$scratch/in"
+{ echo "$header" && seq -f 'D-%g,2024-01-15,BUY,HOOL,2,10.002,USD,' 12; } >"$scratch/in"
 {
     seq -f 'lotbook: row %g: Income:Gains takes -0.004 USD' 10
     printf 'lotbook: %s\n' "... and 2 more" "Income:Gains takes -0.048 USD, of 12 rows"
@@ -672,9 +666,7 @@ notes "crumbs of more than ten rows" 0 "${import[@]}" "${rounding[@]}" --decimal
 # An import by a profile, on a book without the accounts that have this word: refused rows, rows to be left out, and faulty ones.
 profile=$examples/profile
 by_profile() {
-    rm -f "$book"*
-    "$program" init --book "$book" </dev/null >/dev/null 2>&1 &&
-        grep -v -- "$3" "$profile/accounts.ledger" | "$program" post --book "$book" --batch accounts >/dev/null 2>&1 || fail "a book for a case" "it can't be made"
+    grep -v -- "$3" "$profile/accounts.ledger" | book_of "$book" accounts || fail "a book for a case" "its accounts can't be opened"
     run import --book "$book" --batch maple --profile "$scratch/maple.toml" "${@:4}" <"$scratch/in"
     if ((status == $2)) && cmp -s "$scratch/told" "$scratch/err"; then
         pass "$1"
@@ -686,7 +678,7 @@ by_profile() {
 said() { printf 'lotbook: %s\n' "1 row skipped" "$@" >"$scratch/told"; }
 # faulty LINE: what is to be said of a faulty file.
 faulty() { printf 'lotbook: %s\n' "$1" >"$scratch/told"; }
-dropped="$book: nothing is kept, since not all was accepted: entries and lots are named above as the call would have made them"
+dropped="$book: $nothing_kept"
 cp "$profile/maple.csv" "$scratch/in"
 cp "$profile/maple.toml" "$scratch/maple.toml"
 said "row 5 (2024-02-02 1 1001): L3 UnknownAccount: no account of this name was opened: Equity:Transfers: the nearest is Equity:Rounding: 02.02.2024 Payment" "$dropped"

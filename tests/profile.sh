@@ -5,23 +5,7 @@
 # are said to be skipped.
 source "$(dirname "$(readlink -f "${BASH_SOURCE[0]}")")/lib/cases.sh"
 need_program
-
-# judged SCRIPT WORDS..: the cases of a script in this folder.
-judged() {
-    local line counted=""
-    while IFS= read -r line; do
-        case $line in
-            "ok "*) pass "${line#ok }" ;;
-            "FAILED "*) line=${line#FAILED } && fail "${line%%: *}" "${line#*: }" ;;
-            "skipped: "*) echo "$line" ;;
-            *" passed, "*" failed") counted=$line ;;
-            *) fail "$1" "$line" ;;
-        esac
-    done < <(python3 -B "$root/tests/profile/$1" "${@:2}" 2>&1)
-    if [[ -z $counted ]]; then fail "$1" "it ended early"; fi
-}
-
-judged compare.py
-judged program.py "$program"
-judged splits.py "$program"
+run_python tests/profile/compare.py
+run_python tests/profile/program.py "$program"
+run_python tests/profile/splits.py "$program"
 finish

@@ -1,7 +1,10 @@
 #!/usr/bin/env bash
 # The program's streams, words and statuses, on real files.
 source "$(dirname "$(readlink -f "${BASH_SOURCE[0]}")")/lib/cases.sh"
+source "$root/tests/lib/words.sh"
 need_program
+
+mapfile -t words_of_books < <(words_with --book)
 
 # Stored examples, byte for byte.
 run <"$examples/first-purchase.ledger"
@@ -44,22 +47,17 @@ yes | prints "an input without an end" 3 "fault K2 TooLong"
 head -c 16777216 /dev/zero | tr '\0' '\n' | prints "a full input of line ends" 0 "nothing held"
 head -c 16777216 /dev/zero | tr '\0' ';' | prints "a full input of one line" 3 "fault line 1 X7 LineTooLong"
 
-# into FILE: the program with the first purchase as input and FILE as output.
-into() { "$program" <"$examples/first-purchase.ledger" 2>"$scratch/err" >"$1" && status=0 || status=$?; }
-
 # Output that can't be written.
-into /dev/full
+run_full <"$examples/first-purchase.ledger"
 stops "a full disk"
-"$program" </dev/null 2>"$scratch/err" >/dev/full && status=0 || status=$?
+run_full </dev/null
 stops "a full disk and no input"
-"$program" <"$examples/first-purchase.ledger" 2>"$scratch/err" >&- && status=0 || status=$?
+run_closed <"$examples/first-purchase.ledger"
 stops "standard output closed"
 
 # A reader of the output that ends early: what it took is a prefix of the answer.
 yes '2020-01-01 *' | head -n 100000 >"$scratch/many"
-{ "$program" <"$scratch/many" 2>"$scratch/err" && echo 0 >"$scratch/status" || echo $? >"$scratch/status"; } |
-    head -c 10 >"$scratch/taken"
-status=$(<"$scratch/status")
+run_cut 10 <"$scratch/many"
 stops "a pipe that is closed after 10 bytes"
 printf '1 accepted' | cmp -s - "$scratch/taken" && pass "the 10 bytes" || fail "the 10 bytes" "$(<"$scratch/taken")"
 mkfifo "$scratch/pipe"
@@ -69,15 +67,7 @@ mkfifo "$scratch/pipe"
 wait
 stops "a pipe that is closed before the first line"
 
-# Words that can't be used: status 2, a message, nothing on standard output, and the input isn't waited for.
-unusable() {
-    run "${@:2}" <"$examples/first-purchase.ledger"
-    if ((status == 2)) && [[ ! -s $scratch/out ]] && grep -qF -- "$1" "$scratch/err"; then
-        pass "words: ${*:2}"
-    else
-        fail "words: ${*:2}" "status $status, output '$(head -c 60 "$scratch/out")', message '$(head -c 120 "$scratch/err")'"
-    fi
-}
+# Words that can't be used.
 unusable "sell" sell
 unusable "migration" migration --book f
 unusable "hold" hold --book f
@@ -92,7 +82,7 @@ unusable "--book" post --batch a
 unusable "--book" init
 unusable "''" ''
 for value in 0 10000001 -1 x ''; do unusable "--from" post --book f --batch a "--from=$value"; done
-for word in post import init migrate holdings gains journal dump restore verify; do unusable "Example: lotbook $word --book" "$word"; done
+for word in "${words_of_books[@]}"; do unusable "Example: lotbook $word --book" "$word"; done
 unusable "fault U2 BadValue --batch" post --book f --batch a --row-of b --ref r
 unusable "fault U2 BadValue --row-of" post --book f --row-of a/b --ref r
 unusable "fault U2 BadValue --ref" post --book f --row-of a
@@ -246,21 +236,20 @@ helps "lotbook < " --help
 helps "lotbook < " -h
 helps "lotbook < " help
 helps "explain" help
-for word in init post import holdings gains journal dump restore migrate verify; do helps "lotbook $word --book" help "$word"; done
+for word in "${words_of_books[@]}"; do
+    helps "lotbook $word --book" help "$word"
+    helps "lotbook $word --book" "$word" --help
+    helps "--quiet" "$word" -h
+    [[ $word == restore ]] || helps "--book family.book" "$word" -h
+done
 helps "lotbook explain B2" help explain
 helps "lotbook explain B2" explain --help
 helps "[CODE]" explain -h
-helps "lotbook init --book" init --help
-helps "lotbook post --book" post --help
-helps "lotbook import --book" import --help
 helps "the oldest first" import --help
-for word in holdings gains journal dump restore migrate verify; do helps "lotbook $word --book" "$word" --help; done
-for word in init post import holdings gains journal dump migrate verify; do helps "--book family.book" "$word" -h; done
 helps "--batch 2024" post -h
 helps "--row-of broker --ref A17" post -h
 for word in post import init migrate restore; do helps "--dry-run" "$word" -h; done
 for word in post import; do helps "--all-or-none" "$word" -h && helps "--explain-all" "$word" -h; done
-for word in init post import holdings gains journal dump restore migrate verify; do helps "--quiet" "$word" -h; done
 for word in post import; do
     helps "--rounding Equity:Rounding" "$word" -h
     helps "--within 0.01" "$word" -h
@@ -301,15 +290,15 @@ for word in help --help -h; do
     [[ $word == help ]] && cp "$scratch/out" "$scratch/help"
     cmp -s "$scratch/help" "$scratch/out" && pass "$word is the help" || fail "$word is the help" "other than help"
 done
-for word in init migrate post import holdings gains journal dump restore verify explain help; do
+for word in $(words_in_help); do
     found=$(grep -cE "^  $word +[A-Z]" "$scratch/help")
     ((found == 1)) && pass "the line of $word" || fail "the line of $word" "$found lines"
 done
-"$program" --help </dev/null 2>"$scratch/err" >/dev/full && status=0 || status=$?
+run_full --help </dev/null
 stops "help on a full disk"
 
 # The example that is shown beside what is missing is that of the help.
-for word in init post import holdings gains journal dump restore migrate verify; do
+for word in "${words_of_books[@]}"; do
     run "$word" </dev/null
     example=$(sed -n 's/^Example: //p' "$scratch/err")
     helps "$example" "$word" --help
@@ -328,8 +317,8 @@ while read -ra words; do
     fi
 done < <(
     printf '%s\n' help --help -h --version sell "help sell" "init --book" "post --book f" "post --book f --batch a --from 0" "verify --book f --day d" "explain B2 L1"
-    for word in init migrate post import holdings gains journal dump restore verify explain; do printf '%s\n' "help $word" "$word --help" "$word -h"; done
-    for word in init migrate post import holdings gains journal dump restore verify; do printf '%s\n' "$word"; done
+    for word in $(words_in_help | grep -vx help); do printf '%s\n' "help $word" "$word --help" "$word -h"; done
+    printf '%s\n' "${words_of_books[@]}"
 )
 
 # A hint is a call that a shell takes as it is: it makes a book at the path that was named, and nothing else.
@@ -364,7 +353,7 @@ for word in --version -V; do
     prints "the version by $word" 0 "lotbook $version" "$word" </dev/null
 done
 unusable "--version" init --version
-"$program" --version </dev/null 2>"$scratch/err" >/dev/full && status=0 || status=$?
+run_full --version </dev/null
 stops "the version on a full disk"
 
 # The names of the C library's calls that the program asks for: none is of a socket or of another program (SECURITY.md).
@@ -389,7 +378,7 @@ run <"$examples/first-purchase.ledger"
 expect "called through a link to a link" 0 "$examples/first-purchase.expected"
 program=$root/lotbook
 printf x | prints "called with a faulty text" 3 "fault line 1 X3 UnknownDirective"
-"$program" <"$examples/first-purchase.ledger" 2>"$scratch/err" >/dev/full && status=0 || status=$?
+run_full <"$examples/first-purchase.ledger"
 stops "called with a full disk"
 
 finish

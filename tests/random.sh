@@ -4,9 +4,9 @@
 # faulty, and on ledgers of 10,000 lots. Each whole answer is compared, byte for byte, with its status. Every kind of refusal and
 # booking, every order in which two or three lots that tie can be opened, every form of a line and every fault of text has to occur.
 # Ledgers with crumbs go to calls with a rounding account, in memory and in files. tests/random/compare.py and
-# tests/random/rounding.py say how to repeat one seed. The books lie in memory where the machine has room for files there.
-if [[ -d /dev/shm && -w /dev/shm ]]; then export TMPDIR=/dev/shm; fi
+# tests/random/rounding.py say how to repeat one seed.
 source "$(dirname "$(readlink -f "${BASH_SOURCE[0]}")")/lib/cases.sh"
+in_memory
 need_program
 run_python tests/random/compare.py "$program" "$@"
 if (($# == 0)) && takes_crumbs; then run_python tests/random/rounding.py "$program" "$scratch"; fi

@@ -1,17 +1,10 @@
 #!/usr/bin/env bash
 # Reports of books that may not be written: a file or a folder without that right, a file system that is read-only or full, another program that
 # writes the book meanwhile. And what standard error says where a file can't be opened or holds no book.
-source "$(dirname "$(readlink -f "${BASH_SOURCE[0]}")")/lib/cases.sh"
+source "$(dirname "$(readlink -f "${BASH_SOURCE[0]}")")/lib/books.sh"
 need_program
 
 first=$examples/first-purchase.ledger
-tables() { python3 -B "$root/tests/book/tables.py" "$@"; }
-
-# state FOLDER: the files there, with their numbers, lengths, modes, times and bytes.
-state() {
-    find "$1" -printf '%P %i %s %m %T@ %C@\n' | sort
-    find "$1" -type f -readable -exec sha256sum {} + | sort
-}
 
 # reports NAME FOLDER: the reports of the book there are those that were printed before, and no file changes.
 reports() {
@@ -26,36 +19,25 @@ reports() {
 
 home=$scratch/home book=$scratch/home/family.book
 mkdir "$home"
-"$program" init --book "$book" </dev/null >/dev/null
-"$program" post --book "$book" --batch a <"$first" >/dev/null
+book_of "$book" a <"$first"
 for word in holdings gains journal dump verify; do "$program" "$word" --book "$book" </dev/null >"$scratch/$word"; done
 
-# ---- without rights; root may do all, so root runs the program as nobody
+# ---- without rights
 
-chmod 755 "$scratch" && cp "$program" "$scratch/lotbook"
-cat >"$scratch/unprivileged" <<'END'
-#!/usr/bin/env python3
-import os, sys
-if os.getuid() == 0:
-    os.setgroups([])
-    os.setgid(65534)
-    os.setuid(65534)
-os.execv(os.path.join(os.path.dirname(sys.argv[0]), "lotbook"), ["lotbook", *sys.argv[1:]])
-END
-chmod +x "$scratch/unprivileged"
+without_rights
 chmod 444 "$book" "$book-wal" && chmod 555 "$home"
-program=$scratch/unprivileged reports "files and a folder that may only be read" "$home"
-program=$scratch/unprivileged run post --book "$book" --batch b <"$first"
+program=$unprivileged reports "files and a folder that may only be read" "$home"
+program=$unprivileged run post --book "$book" --batch b <"$first"
 says "a post needs the right to write" "lotbook: $book: no permission"
 chmod 755 "$home" && rm "$book-wal" && chmod 555 "$home"
-program=$scratch/unprivileged reports "without a log" "$home"
+program=$unprivileged reports "without a log" "$home"
 chmod 755 "$home" && cp "$book" "$scratch/whole"
-(trap '' XFSZ && ulimit -f 6000 && exec "$program" post --book "$book" --batch many < <(seq -f '2020-01-01 open Assets:A%g' 2000)) >/dev/null 2>&1
+seq -f '2020-01-01 open Assets:A%g' 2000 | limited 6000 post --book "$book" --batch many >/dev/null 2>&1
 for word in holdings gains journal dump verify; do
     cp -a "$home" "$scratch/copy" && "$program" "$word" --book "$scratch/copy/family.book" </dev/null >"$scratch/$word" && rm -r "$scratch/copy"
 done
 chmod 444 "$book" "$book-wal" && chmod 555 "$home"
-program=$scratch/unprivileged reports "a long log that may only be read" "$home"
+program=$unprivileged reports "a long log that may only be read" "$home"
 if (($(wc -l <"$scratch/journal") > 100)); then pass "what stands in the log is there"; else fail "what stands in the log is there" "it isn't"; fi
 chmod 755 "$home" && chmod 644 "$book" "$book-wal"
 
@@ -106,14 +88,10 @@ fi
 
 # ---- another program that writes the book meanwhile: each journal is a part of the last one, from its start on
 
-mkfifo "$scratch/slow"
-"$program" post --book "$book" --batch more <"$scratch/slow" >"$scratch/posted" 2>&1 &
-writer=$!
-exec 8>"$scratch/slow"
-until_open "$book"
+slow_call "$book" post --batch more
 seq -f '2020-01-01 open Assets:B%g' 3000 >&8 && exec 8>&-
 count=0
-while kill -0 "$writer" 2>/dev/null; do
+while kill -0 "$begun" 2>/dev/null; do
     if ! "$program" journal --book "$book" </dev/null >"$scratch/journal.$count" 2>"$scratch/err"; then
         fail "a journal meanwhile" "$(head -n 1 "$scratch/err")"
         break
@@ -163,21 +141,15 @@ cause "half a database" "$scratch/half.book" "it is a damaged database, or a par
 printf x >"$scratch/letter.book"
 cause "a letter" "$scratch/letter.book" "one byte is no database"
 chmod 000 "$book"
-program=$scratch/unprivileged cause "a file that may not be read" "$book" "no permission"
+program=$unprivileged cause "a file that may not be read" "$book" "no permission"
 chmod 644 "$book"
 chmod 555 "$home"
-program=$scratch/unprivileged run init --book "$home/new.book" </dev/null
+program=$unprivileged run init --book "$home/new.book" </dev/null
 says "init in a folder that takes no files" "lotbook: $home/new.book: no permission"
 chmod 755 "$home"
 run journal --book "$scratch/text.book" --quiet </dev/null
 if ((status == 4)) && [[ ! -s $scratch/err ]]; then pass "nothing is said with --quiet"; else fail "nothing is said with --quiet" "$(head -n 1 "$scratch/err")"; fi
-"$program" post --book "$book" --batch slow <"$scratch/slow" >"$scratch/posted" 2>&1 &
-slow=$!
-exec 8>"$scratch/slow"
-for _ in {1..1200}; do
-    if [[ $(readlink "/proc/$slow/fd/"*) == *family.book* ]]; then break; fi
-    sleep 0.05
-done
+slow_call "$book" post --batch slow
 run init --book "$book" </dev/null
 says "a book that another program has open" "lotbook: $book: another program has it open"
 exec 8>&-
@@ -215,27 +187,10 @@ nobook "init: a book of edition 1" "$scratch/older.book" " is a book already" in
 
 # ---- the sum of a call, on a terminal
 
-# shown WORDS..: what a call says on standard error where that is a terminal.
-shown() {
-    python3 -c 'import os, pty, sys
-pid, terminal = pty.fork()
-if pid == 0:
-    os.dup2(os.open("/dev/null", os.O_WRONLY), 1)
-    os.dup2(os.open(sys.argv[1], os.O_RDONLY), 0)
-    os.execv(sys.argv[2], sys.argv[2:])
-shown = b""
-try:
-    while part := os.read(terminal, 4096):
-        shown += part
-except OSError:
-    pass
-os.waitpid(pid, 0)
-sys.stdout.write(shown.decode())' "$1" "$program" "${@:2}"
-}
 # sums NAME PATTERN INPUT WORDS..: the last line there matches the pattern whole.
 sums() {
     local found
-    found=$(shown "${@:3}" | tr -d '\r' | tail -n 1)
+    found=$(on_terminal /dev/null "${@:3}" | tr -d '\r' | tail -n 1)
     if grep -qxE "$2" <<<"$found"; then pass "$1"; else fail "$1" "$found"; fi
 }
 time='in [0-9]+\.[0-9] s'
@@ -243,7 +198,7 @@ sums "the sum of a post" "0 accepted, 3 repeated, 0 refused $time" "$first" post
 sums "of a post with refusals" "1 accepted, 0 repeated, 2 refused $time" "$first" post --book "$book" --batch c
 sums "of a dry run" "1 accepted, 0 repeated, 2 refused $time: a dry run, of which nothing is kept" "$first" \
     post --book "$book" --batch d --dry-run
-sums "of all or none" "lotbook: $book: nothing is kept, since not all was accepted: entries and lots are named above as the call would have made them" "$first" post --book "$book" --batch d --all-or-none
+sums "of all or none" "lotbook: $book: $nothing_kept" "$first" post --book "$book" --batch d --all-or-none
 printf '2020-01-01 open Assets:Kept\n' >"$scratch/kept"
 sums "of all or none that is kept" "1 accepted, 0 repeated, 0 refused $time" "$scratch/kept" post --book "$book" --batch e --all-or-none
 sums "none with --quiet" "" "$first" post --book "$book" --batch a --quiet

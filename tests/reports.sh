@@ -1,19 +1,18 @@
 #!/usr/bin/env bash
 # The reports of books in files: every session under tests/reports/, the stored cases, ledgers drawn from seeds beside plain reports
 # in Python, words that can't be used, files that are no book, output that can't be written, totals that leave their range, and a
-# large book.
-# The books lie in memory where the machine has room for files there: a commit for each of 100,000 commands would wait for the disk.
+# large book. A commit for each of 100,000 commands would wait for the disk, so the books lie in memory where there is room.
 #
 #   tests/reports.sh [TRADES]    so many trades in the large book, a multiple of forty or two less; 14,600 where it is absent
-if [[ -d /dev/shm && -w /dev/shm ]]; then export TMPDIR=/dev/shm; fi
-source "$(dirname "$(readlink -f "${BASH_SOURCE[0]}")")/lib/cases.sh"
+source "$(dirname "$(readlink -f "${BASH_SOURCE[0]}")")/lib/books.sh"
+in_memory
 need_program
 
 book=$scratch/family.book
 accepted() { seq -f '%g accepted' "$1" "$2"; }
 
 # fresh: a new book, a copy of one.
-"$program" init --book "$scratch/new" </dev/null >/dev/null || fail "a new book" "it can't be made"
+new_book "$scratch/new"
 fresh() { rm -f "$book"* && cp "$scratch/new" "$book"; }
 
 # ---- sessions
@@ -42,7 +41,7 @@ done_with() {
     local name="$1, $blocks: $call" words
     if [[ $call == "sql "* ]]; then
         damaged=1 wanted=0
-        python3 -B "$root/tests/book/tables.py" rows "$book" "${call#sql }" >"$scratch/out" 2>"$scratch/err" && status=0 || status=$?
+        tables rows "$book" "${call#sql }" >"$scratch/out" 2>"$scratch/err" && status=0 || status=$?
     else
         read -ra words <<<"$call"
         run "${words[0]}" --book "$book" "${words[@]:1}" <"$input"
@@ -66,8 +65,7 @@ again() {
 # elsewhere NAME: posted to another book, the journal leaves the same journal there, under other keys, and the same gains.
 elsewhere() {
     local other=$scratch/again.book
-    rm -f "$other"*
-    "$program" init --book "$other" </dev/null >/dev/null || fail "$1: another book" "it can't be made"
+    new_book "$other"
     accepted 1 "$(grep -c '^; entry ' "$scratch/journal")" >"$printed"
     run post --book "$other" --batch again <"$scratch/journal"
     expect "$1: its journal on another book" 0 "$printed"
@@ -123,15 +121,6 @@ run_python tests/random/reports.py "$program" "$scratch"
 
 # ---- words
 
-# unusable MESSAGE WORDS..: status 2, a message that has these words, and nothing on standard output.
-unusable() {
-    run "${@:2}" </dev/null
-    if ((status == 2)) && [[ ! -s $scratch/out ]] && grep -qF -- "$1" "$scratch/err"; then
-        pass "words: ${*:2}"
-    else
-        fail "words: ${*:2}" "status $status, output '$(head -c 60 "$scratch/out")', message '$(head -c 120 "$scratch/err")'"
-    fi
-}
 fresh
 for day in 2020-02-30 2020-13-01 2021-02-29 0000-01-01 20-1-1 20200101 2020-01-01x x ''; do
     unusable "fault U2 BadValue --day" holdings --book "$book" "--day=$day"
@@ -161,30 +150,24 @@ for word in holdings "holdings --day 2020-01-01" gains journal; do
     read -ra words <<<"$word"
     missing=$scratch/missing.book
     prints "$word of a missing file" 4 "fault S1 NotABook" "${words[@]}" --book "$missing" </dev/null
-    if compgen -G "$missing*" >/dev/null; then fail "$word leaves no file" "$(ls "$missing"*)"; else pass "$word leaves no file"; fi
+    no_file "$word leaves no file" "$missing"
     : >"$scratch/empty.book"
     prints "$word of an empty file" 4 "fault S1 NotABook" "${words[@]}" --book "$scratch/empty.book" </dev/null
-    rm -f "$scratch/newer.book"*
-    "$program" init --book "$scratch/newer.book" </dev/null >/dev/null
-    python3 -B "$root/tests/book/tables.py" edition "$scratch/newer.book" 9
+    new_book "$scratch/newer.book"
+    tables edition "$scratch/newer.book" 9
     prints "$word of a book of edition 9" 4 "fault S2 NewerEdition" "${words[@]}" --book "$scratch/newer.book" </dev/null
     rm -f "$scratch/older.book"*
-    python3 -B "$root/tests/book/tables.py" older "$scratch/older.book"
+    tables older "$scratch/older.book"
     run "${words[@]}" --book "$scratch/older.book" </dev/null
     older "$word of a book of edition 1"
     printf 'no database, but a text\n' >"$scratch/text.book"
     run "${words[@]}" --book "$scratch/text.book" </dev/null
-    if ((status == 4)) && [[ $(<"$scratch/out") == "fault open" && -s $scratch/err ]]; then
-        pass "$word of a text"
-    else
-        fail "$word of a text" "status $status, $(head -n 1 "$scratch/out"), $(head -n 1 "$scratch/err")"
-    fi
+    unopened "$word of a text"
 done
 # No input is waited for, or read.
 mkfifo "$scratch/nothing" && exec 7<>"$scratch/nothing"
 for word in holdings gains journal; do
-    status=0
-    timeout 600 "$program" "$word" --book "$book" <&7 >"$scratch/out" 2>"$scratch/err" || status=$?
+    run "$word" --book "$book" <&7
     if ((status == 0)) && [[ ! -s $scratch/err ]]; then pass "$word reads no input"; else fail "$word reads no input" "status $status"; fi
 done
 
@@ -211,31 +194,14 @@ trades 6000 4 >"$scratch/many"
 
 for word in holdings "holdings --day 2020-12-31" gains journal; do
     read -ra words <<<"$word"
-    "$program" "${words[@]}" --book "$book" </dev/null 2>"$scratch/err" >/dev/full && status=0 || status=$?
-    stops "$word on a full disk"
-    "$program" "${words[@]}" --book "$book" </dev/null 2>"$scratch/err" >&- && status=0 || status=$?
-    stops "$word with standard output closed"
-    "$program" "${words[@]}" --book "$book" </dev/null >"$scratch/whole"
-    for bytes in 1 10 4097; do
-        { "$program" "${words[@]}" --book "$book" </dev/null 2>"$scratch/err" && echo 0 >"$scratch/status" || echo $? >"$scratch/status"; } |
-            head -c "$bytes" >"$scratch/taken"
-        status=$(<"$scratch/status")
-        stops "$word to a pipe that is closed after $bytes bytes"
-        if head -c "$bytes" "$scratch/whole" | cmp -s - "$scratch/taken"; then
-            pass "$word: the first $bytes bytes"
-        else
-            fail "$word: the first $bytes bytes" "$(head -c 100 "$scratch/taken")"
-        fi
-    done
-    run "${words[@]}" --book "$book" </dev/null
-    expect "$word after that" 0 "$scratch/whole"
+    cut_short "$word" "1 10 4097" "${words[@]}" --book "$book"
 done
 fresh
 for word in holdings gains; do
-    "$program" "$word" --book "$book" </dev/null 2>"$scratch/err" >/dev/full && status=0 || status=$?
+    run_full "$word" --book "$book" </dev/null
     stops "$word of an empty book on a full disk"
 done
-"$program" journal --book "$book" </dev/null >/dev/full && status=0 || status=$?
+run_full journal --book "$book" </dev/null
 if ((status == 0)); then pass "the journal of an empty book on a full disk"; else fail "the journal of an empty book on a full disk" "status $status"; fi
 
 # ---- totals that leave their range

@@ -1,16 +1,14 @@
 #!/usr/bin/env bash
 # `restore`: the dump of a book makes that book again, table by table and row for row; what it answers to texts that were edited, beside a
 # plain restorer; what it refuses; hostile dumps; and stops at any moment (tests/restore/). tests/whole/restore.sh runs more of each.
-# The books lie in memory where the machine has room for files there.
-if [[ -d /dev/shm && -w /dev/shm ]]; then export TMPDIR=/dev/shm; fi
-source "$(dirname "$(readlink -f "${BASH_SOURCE[0]}")")/lib/cases.sh"
+source "$(dirname "$(readlink -f "${BASH_SOURCE[0]}")")/lib/books.sh"
+in_memory
 
 # The codes of dumps, each without its letter.
 not_a_dump="1 NotADump" newer_format="2 NewerFormat" wrong_digest="3 WrongDigest" wrong_count="4 WrongCount"
 need_program
 
 first=$scratch/first.book new=$scratch/new.book dump=$scratch/dump text=$scratch/text
-tables() { python3 -B "$root/tests/book/tables.py" "$@"; }
 
 # fresh: no new book.
 fresh() { rm -rf "$new"*; }
@@ -25,7 +23,7 @@ none() {
 restores() {
     fresh
     prints "$1, in a dry run" "$2" "$3" restore --book "$new" --dry-run "${@:4}" <"$text"
-    if [[ -z $(compgen -G "$new*") ]]; then pass "$1, in a dry run: no file"; else fail "$1, in a dry run: no file" "$(ls "$scratch")"; fi
+    no_file "$1, in a dry run: no file" "$new"
     prints "$1" "$2" "$3" restore --book "$new" "${@:4}" <"$text"
     if [[ $'\n'$3$'\n' == *$'\nbook restored\n'* ]]; then
         prints "$1: a book" 0 "book verified" verify --book "$new" </dev/null
@@ -45,14 +43,13 @@ signed() {
 
 # ---- the first book
 
-"$program" init --book "$first" </dev/null >/dev/null
-"$program" post --book "$first" --batch start >"$scratch/posted" <<'TEXT'
+book_of "$first" start <<'TEXT'
 2020-01-01 open Assets:Broker "FIFO"
 2020-01-01 open Assets:Cash
 2020-01-01 open Income:Gains
 2020-01-01 open Expenses:Fees
 TEXT
-"$program" import --book "$first" --batch deals --invest Assets:Broker --cash Assets:Cash --fees Expenses:Fees --gains Income:Gains >>"$scratch/posted" <<'TEXT'
+"$program" import --book "$first" --batch deals "${accounts[@]}" >>"$scratch/posted" <<'TEXT'
 ref,date,action,symbol,units,price,currency,fee
 D 1; of two,2020-01-02,BUY,HOOL,10,100,USD,
 D-2,2020-06-15,SELL,HOOL,4,120,USD,
@@ -66,10 +63,7 @@ TEXT
 TEXT
 if (($(grep -c accepted "$scratch/posted") == 9)); then pass "the first book"; else fail "the first book" "$(grep -v accepted "$scratch/posted" | head -n 1)"; fi
 "$program" dump --book "$first" </dev/null >"$dump"
-kept=$(sha256sum <"$first")
-
-# is_kept: the first book is as it was. A log shorter than a page holds no commit.
-is_kept() { [[ $(sha256sum <"$first") == "$kept" ]] && { [[ ! -e $first-wal ]] || (($(stat -c %s "$first-wal") < 4096)); }; }
+first_kept=$(kept "$first")
 
 # ---- answers
 
@@ -88,7 +82,7 @@ gains 2020 USD 76.00 was 80.00
 gains 2021 USD 48.00 was 50.00
 held Assets:Cash USD -275 was -265
 held Income:Gains USD -129 was -135" --edited --compare "$first"
-if is_kept; then pass "the old book is as it was"; else fail "the old book is as it was" "it changed"; fi
+same "the old book is as it was" "$first" "$first_kept"
 
 edit '/^; entry 7 /,/^; entry 8 /{/^; entry 8 /!d}'
 restores "a sale less" 3 "fault D${wrong_digest}"
@@ -223,8 +217,7 @@ restores "more than 16 MiB in an entry" 3 "fault K2 TooLong" --edited
 for words in "a folder" "closed"; do
     fresh
     if [[ $words == closed ]]; then run restore --book "$new" <&-; else run restore --book "$new" <"$scratch"; fi
-    echo "fault K1 Read" >"$scratch/expected"
-    expect "input that is $words" 3 "$scratch/expected"
+    wrote "input that is $words" 3 "fault K1 Read"
     none "input that is $words"
 done
 
@@ -243,15 +236,14 @@ done
 # stays NAME LINE: the file of $new isn't taken, stays to the byte, and of the input nothing is read.
 stays() {
     local before way
-    before=$(sha256sum <"$new")
+    before=$(kept "$new")
     for way in --edited --dry-run; do
         exec 9<"$text"
-        timeout 600 "$program" restore --book "$new" "$way" <&9 >"$scratch/out" 2>"$scratch/err" && status=0 || status=$?
+        run restore --book "$new" "$way" <&9
         cat <&9 >"$scratch/unread" && exec 9<&-
-        printf '%s\n' "$2" >"$scratch/expected"
-        expect "$1, $way" 4 "$scratch/expected"
+        wrote "$1, $way" 4 "$2"
         if cmp -s "$text" "$scratch/unread"; then pass "$1, $way: nothing is read"; else fail "$1, $way: nothing is read" "some is"; fi
-        if [[ $(sha256sum <"$new") == "$before" ]]; then pass "$1, $way: it stays"; else fail "$1, $way: it stays" "it changed"; fi
+        same "$1, $way: it stays" "$new" "$before"
     done
 }
 fresh && cp "$first" "$new" && stays "a book" "fault S1 NotABook"
@@ -259,21 +251,18 @@ fresh && tables older "$new" && stays "a book of edition 1" "fault S1 NotABook"
 fresh && cp "$first" "$new" && tables edition "$new" 9 && stays "a book of a newer edition" "fault S1 NotABook"
 fresh && tables foreign "$new" notes && stays "a database of another program" "fault S1 NotABook"
 fresh && tables foreign "$new" book && stays "a database with a table book" "fault S1 NotABook"
-fresh && "$program" init --book "$new" </dev/null >/dev/null && stays "an empty book" "fault S1 NotABook"
+fresh && new_book "$new" && stays "an empty book" "fault S1 NotABook"
 fresh && cp "$examples/year.ledger" "$new" && stays "a text" "fault open"
 fresh && prints "a folder" 4 "fault open" restore --book "$scratch" <"$text"
 prints "a missing folder" 4 "fault open" restore --book "$scratch/none/new.book" <"$text"
-if [[ ! -e $scratch/none ]]; then pass "no folder is made"; else fail "no folder is made" "there is one"; fi
+no_file "no folder is made" "$scratch/none"
 
 # Another call has the file open: a restoration reads its input while it makes the book.
 fresh
 mkfifo "$scratch/slow"
 "$program" restore --book "$new" <"$scratch/slow" >"$scratch/restored" 2>&1 &
 exec 8>"$scratch/slow"
-for _ in {1..600}; do
-    if [[ -e $new ]]; then break; fi
-    sleep 0.05
-done
+wait_until test -e "$new"
 until_open "$new"
 prints "a file that another call restores" 4 "fault open" restore --book "$new" <"$text"
 cat "$text" >&8 && exec 8>&-
@@ -289,12 +278,12 @@ old() {
     none "$1"
 }
 rm -f "$scratch/old.book"* && old "no old book" "fault S1 NotABook"
-if [[ ! -e $scratch/old.book ]]; then pass "no old book is made"; else fail "no old book is made" "there is one"; fi
+no_file "no old book is made" "$scratch/old.book"
 tables older "$scratch/old.book" && old "an old book of edition 1" "fault S3 OlderEdition"
 cp "$examples/year.ledger" "$scratch/old.book" && old "an old book that is a text" "fault open"
 rm -f "$scratch/old.book"* && tables foreign "$scratch/old.book" notes && old "an old book of another program" "fault S1 NotABook"
 run restore --book "$first" --compare "$first" <"$text"
-if ((status == 4)) && [[ $(<"$scratch/out") =~ ^fault\ (S1\ NotABook|open)$ ]] && is_kept; then
+if ((status == 4)) && [[ $(<"$scratch/out") =~ ^fault\ (S1\ NotABook|open)$ && $(kept "$first") == "$first_kept" ]]; then
     pass "the same file as old and as new book"
 else
     fail "the same file as old and as new book" "status $status, $(head -n 1 "$scratch/out")"
@@ -302,9 +291,7 @@ fi
 
 # A copy of an old book that another program writes is read, as by a report.
 rm -f "$scratch/old.book"* && cp "$first" "$scratch/old.book"
-"$program" post --book "$scratch/old.book" --batch slow <"$scratch/slow" >"$scratch/posted" 2>&1 &
-exec 8>"$scratch/slow"
-until_open "$scratch/old.book"
+slow_call "$scratch/old.book" post --batch slow
 fresh
 prints "an old book that another program has open" 0 "book restored" restore --book "$new" --compare "$scratch/old.book" <"$text"
 exec 8>&-
@@ -322,19 +309,11 @@ unwritten() {
 }
 for words in full closed; do
     fresh
-    if [[ $words == full ]]; then
-        "$program" restore --book "$new" <"$text" 2>"$scratch/err" >/dev/full && status=0 || status=$?
-    else
-        "$program" restore --book "$new" <"$text" 2>"$scratch/err" >&- && status=0 || status=$?
-    fi
+    "run_$words" restore --book "$new" <"$text"
     unwritten "output that is $words"
     prints "output that is $words: the book is made" 0 "book verified" verify --book "$new" </dev/null
     fresh
-    if [[ $words == full ]]; then
-        "$program" restore --book "$new" --without-entries 5-5 <"$text" 2>"$scratch/err" >/dev/full && status=0 || status=$?
-    else
-        "$program" restore --book "$new" --without-entries 5-5 <"$text" 2>"$scratch/err" >&- && status=0 || status=$?
-    fi
+    "run_$words" restore --book "$new" --without-entries 5-5 <"$text"
     unwritten "refusals, with output that is $words"
     none "refusals, with output that is $words"
 done

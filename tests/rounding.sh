@@ -2,9 +2,9 @@
 # The rounding account from outside, where the program has one: the year of each of two brokers and a ledger of 205 transactions, which tests/rounding/made.py makes.
 # They go in without a refusal, the cash is the broker's to the cent, no transaction leaves more than a cent in the account, and the
 # journal comes to the same book without the options. Then the words, what standard error says, and what is refused all the same.
-# The books lie in memory where the machine has room for files there.
-if [[ -d /dev/shm && -w /dev/shm ]]; then export TMPDIR=/dev/shm; fi
-source "$(dirname "$(readlink -f "${BASH_SOURCE[0]}")")/lib/cases.sh"
+source "$(dirname "$(readlink -f "${BASH_SOURCE[0]}")")/lib/books.sh"
+source "$root/tests/lib/words.sh"
+in_memory
 need_program
 if ! takes_crumbs; then finish; fi
 
@@ -12,7 +12,7 @@ look() { python3 -B "$root/tests/rounding/look.py" "$@"; }
 made=$scratch/made
 mkdir "$made"
 python3 -B "$root/tests/rounding/made.py" "$made" || fail "the years" "they can't be made"
-"$program" init --book "$scratch/new" </dev/null >/dev/null || fail "a new book" "it can't be made"
+new_book "$scratch/new"
 rounding=(--rounding Equity:Rounding)
 
 # fresh NAME: a copy of a new book, in `book`, on which the accounts are open.
@@ -168,8 +168,8 @@ if ((status == 0)) && [[ ! -s $scratch/err ]]; then pass "--quiet says nothing";
 
 # ---- words
 
-# unusable NAME CODE WORDS..: these words can't be used, by U1 where that is the code, else by U2.
-unusable() {
+# refuses NAME CODE WORDS..: these words can't be used, by U1 where that is the code, else by U2.
+refuses() {
     run "${@:3}" </dev/null
     if ((status != 2)) || [[ -s $scratch/out ]]; then
         fail "$1" "status $status"
@@ -182,13 +182,13 @@ unusable() {
 fresh words
 for call in "" "post --book $book --batch w"; do
     read -ra words <<<"$call"
-    for decimals in 9 10 -1 x 2.0 4294967298; do unusable "${words[0]-check} --decimals $decimals" U1 "${words[@]}" "${rounding[@]}" "--decimals=$decimals"; done
-    for within in 2 1.00000001 -0.005 0.000000001 x ""; do unusable "${words[0]-check} --within '$within'" U2 "${words[@]}" "${rounding[@]}" "--within=$within"; done
+    for decimals in 9 10 -1 x 2.0 4294967298; do refuses "${words[0]-check} --decimals $decimals" U1 "${words[@]}" "${rounding[@]}" "--decimals=$decimals"; done
+    for within in 2 1.00000001 -0.005 0.000000001 x ""; do refuses "${words[0]-check} --within '$within'" U2 "${words[@]}" "${rounding[@]}" "--within=$within"; done
     for account in "" Equity Rounding equity:Rounding Equity:rounding "$(printf 'Equity:%0122d' 0)"; do
-        unusable "${words[0]-check} --rounding '$account'" U2 "${words[@]}" "--rounding=$account"
+        refuses "${words[0]-check} --rounding '$account'" U2 "${words[@]}" "--rounding=$account"
     done
-    unusable "${words[0]-check} --within alone" U2 "${words[@]}" --within 0.005
-    unusable "${words[0]-check} --decimals alone" U2 "${words[@]}" --decimals 8
+    refuses "${words[0]-check} --within alone" U2 "${words[@]}" --within 0.005
+    refuses "${words[0]-check} --decimals alone" U2 "${words[@]}" --decimals 8
     for good in "--within 0" "--within 1" "--within 1.00000000" "--within 0.00000001" "--decimals 0" "--decimals 8 --within 0.5"; do
         read -ra more <<<"$good"
         run "${words[@]}" "${rounding[@]}" "${more[@]}" <"$made/accounts.ledger"
@@ -198,14 +198,6 @@ done
 
 # ---- what standard error says
 
-# answers NAME STATUS LINES: the last call ended so, and wrote these lines.
-answers() {
-    if ((status == $2)) && [[ $(<"$scratch/out") == "$3" ]]; then
-        pass "$1"
-    else
-        fail "$1" "status $status, '$(head -c 200 "$scratch/out" | tr '\n' '|')', '$(head -c 300 "$scratch/err" | tr '\n' '|')'"
-    fi
-}
 # says_of COUNT NAME PATTERN..: so many lines of standard error match all of these patterns.
 says_of() {
     local found pattern
@@ -293,7 +285,6 @@ one few '2024-01-02 *\n  Assets:Depot 1.5 FUND {1.25 USD}\n  Assets:Cash\n' "${r
 if ((status == 0)) && grep -qxF 'Assets:Cash -1.875 USD' "$scratch/out"; then pass "no decimals, and a crumb over the bound: as it is written"; else fail "no decimals" "status $status"; fi
 
 # Rows: half a cent goes to the even one, and the row comes again at other decimals.
-header=ref,date,action,symbol,units,price,currency,fee
 fresh rows "$scratch/accounts.ledger"
 import() { run import --book "$book" --batch x --invest Assets:Depot --cash Assets:Cash --fees Income:Gains --gains Income:Gains "$@"; }
 printf '%s\n' "$header" A,2024-01-02,BUY,FUND,0.5,0.05,USD, B,2024-01-02,BUY,FUND,0.5,0.07,USD, | import "${rounding[@]}" --decimals 2
@@ -391,5 +382,5 @@ if [[ ! -s $scratch/err ]]; then pass "nor is anything of a quiet call"; else fa
 for code in B5 L12 L14 C4; do
     if "$program" explain "$code" </dev/null | grep -qF -- --rounding; then pass "explain $code names the option"; else fail "explain $code names the option" "it doesn't"; fi
 done
-for word in init holdings gains journal dump restore verify migrate; do unusable "$word takes no rounding account" U1 "$word" --book "$book" "${rounding[@]}"; done
+for word in $(words_with --book --rounding); do refuses "$word takes no rounding account" U1 "$word" --book "$book" "${rounding[@]}"; done
 finish

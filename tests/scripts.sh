@@ -148,33 +148,18 @@ wrapped "a changed source with an older date" 7 24 y
 # ---- stops, and two at once
 
 # begun COUNT: the stand-in has begun so often with a crate that takes its time.
-begun() {
-    for _ in {1..1200}; do
-        if [[ -e $CALLS.slow ]] && (($(wc -l <"$CALLS.slow") >= $1)); then return; fi
-        sleep 0.05
-    done
-}
+begun() { wait_until has_begun "$1"; }
+has_begun() { [[ -e $CALLS.slow ]] && (($(wc -l <"$CALLS.slow") >= $1)); }
 # ended NAME: none of the stand-in's calls that take their time goes on.
-ended() {
-    for _ in {1..1200}; do
-        if ! xargs -r ps -o pid= -p <"$CALLS.slow" >/dev/null; then
-            pass "$1"
-            return
-        fi
-        sleep 0.05
-    done
-    fail "$1" "it goes on"
-}
+ended() { if wait_until has_ended; then pass "$1"; else fail "$1" "it goes on"; fi; }
+has_ended() { ! xargs -r ps -o pid= -p <"$CALLS.slow" >/dev/null; }
 echo "// more" >>"$repo/crates/lotbook/src/main.rt" && touch "$repo/crates/lotbook/src/slow"
 PATH=$path setsid "$repo/lotbook" a >"$scratch/out" 2>"$scratch/err" </dev/null &
 begun 1
 kill -TERM -- -$! && wait $! && status=0 || status=$?
 if ((status == 143)); then pass "a build that is ended by a signal"; else fail "a build that is ended by a signal" "status $status"; fi
 ended "nothing of it goes on"
-for _ in {1..1200}; do # what builds ends a little later than the script
-    if grep -q stopped "$scratch/err"; then break; fi
-    sleep 0.05
-done
+wait_until grep -q stopped "$scratch/err" # what builds ends a little later than the script
 says "it says so" "^lotbook: stopped; the next call goes on from here$"
 if [[ ! -e $repo/.git/rooms && $(wc -l <"$repo/crates/lotbook/out/incremental/kept") == 11 ]]; then
     pass "what it kept goes to the crate"
@@ -502,13 +487,16 @@ else
 fi
 chmod -R u+w "$repo" "$scratch/a checkout" && path=$with
 
-# compared NAME STATUS LASTLINE: tests/release.sh of the repository.
-mkdir "$repo/examples" && cp -r "$root/tests/lib" "$root/tests/release.sh" "$repo/tests/"
-compared() {
-    PATH=$path "$repo/tests/release.sh" >"$scratch/out" 2>"$scratch/err" </dev/null
+# counts NAME STATUS LASTLINE COMMAND..: the command ends with that status, and this is the last line of its output.
+counts() {
+    PATH=$path "${@:4}" >"$scratch/out" 2>"$scratch/err" </dev/null
     status=$?
     if ((status == $2)) && [[ $(tail -n 1 "$scratch/out") == "$3" ]]; then pass "$1"; else fail "$1" "status $status, $(tail -n 2 "$scratch/out" | tr '\n' '|')"; fi
 }
+
+# compared NAME STATUS LASTLINE: tests/release.sh of the repository.
+mkdir "$repo/examples" && cp -r "$root/tests/lib" "$root/tests/release.sh" "$repo/tests/"
+compared() { counts "$@" "$repo/tests/release.sh"; }
 compared "compared: the same program" 0 "2 passed, 0 failed"
 echo "# another" >>"$repo/crates/lotbook/out/lotbook"
 sed -i "s/^program .*/program $(sha256sum <"$repo/crates/lotbook/out/lotbook" | cut -d ' ' -f 1)/" "$repo/crates/lotbook/out/sums"
@@ -525,15 +513,7 @@ rm -r "$repo"/tests/{lib,release.sh}
 
 # tested NAME STATUS LASTLINE WORDS..: the test command, with the output of the stand-in's gate in the file `ci`, and its status
 # beside it.
-tested() {
-    PATH=$path "$repo/test" "${@:4}" >"$scratch/out" 2>"$scratch/err"
-    status=$?
-    if ((status == $2)) && [[ $(tail -n 1 "$scratch/out") == "$3" ]]; then
-        pass "$1"
-    else
-        fail "$1" "status $status, last line '$(tail -n 1 "$scratch/out")'"
-    fi
-}
+tested() { counts "${@:1:3}" "$repo/test" "${@:4}"; }
 
 path=$without
 tested "test: no kit" 1 "0 passed, 1 failed"
@@ -573,11 +553,7 @@ tested "test: no script" 1 "4 passed, 1 failed"
 
 cp -r "$root/tests/lib" "$repo/tests/" && cp "$root/tests/whole/edits.sh" "$repo/tests/whole/"
 # tried NAME STATUS LASTLINE: the script of the edits, where the stand-in answers for each what it holds.
-tried() {
-    PATH=$path "$repo/tests/whole/edits.sh" >"$scratch/out" 2>"$scratch/err" </dev/null
-    status=$?
-    if ((status == $2)) && [[ $(tail -n 1 "$scratch/out") == "$3" ]]; then pass "$1"; else fail "$1" "status $status, $(tail -n 2 "$scratch/out" | tr '\n' '|')"; fi
-}
+tried() { counts "$@" "$repo/tests/whole/edits.sh"; }
 tried "edits: none" 0 "0 passed, 0 failed"
 mkdir "$repo"/crates/{left,low}/edits
 echo "refused, as it must be: x" >"$repo/crates/left/edits/one.edit"

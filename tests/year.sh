@@ -1,7 +1,7 @@
 #!/usr/bin/env bash
 # A year that goes wrong: the exports of two brokers, with the newest row first, decimal commas, a fraction of a share whose cash doesn't
 # fit and a sale whose lot isn't named; then a split, and files that overlap. At each step standard error says what is needed to go on.
-source "$(dirname "$(readlink -f "${BASH_SOURCE[0]}")")/lib/cases.sh"
+source "$(dirname "$(readlink -f "${BASH_SOURCE[0]}")")/lib/books.sh"
 need_program
 
 book=$scratch/year.book
@@ -30,7 +30,7 @@ EOT
 # import NAME FILE [OPTIONS]: the call for one of the two brokers.
 import() {
     local account=Assets:${1^}
-    run import --book "$book" --batch "$1" --invest "$account" --cash Assets:Cash --fees Expenses:Fees --gains Income:Gains "${@:3}" <"$scratch/$2"
+    run import --book "$book" --batch "$1" --invest "$account" "${accounts[@]:2}" "${@:3}" <"$scratch/$2"
 }
 
 # step NAME STATUS REPLIES NOTES..: the last call ended so, with these replies, and each of the notes stands on standard error, which has
@@ -54,7 +54,7 @@ step() {
     fi
 }
 
-run init --book "$book" </dev/null
+new_book "$book"
 run post --book "$book" --batch accounts <"$scratch/accounts.ledger"
 step "the accounts" 0 $'1 accepted\n2 accepted\n3 accepted\n4 accepted\n5 accepted'
 
@@ -70,7 +70,7 @@ step "the newest row first" 1 $'1 refused B4 IncompleteCost posting 1\n2 accepte
     "row 4 (N1): L10 BackDated: a later day of this account and commodity is booked at cost already: the latest is 2024-03-15, of entry 6" \
     "warning: the first row is of 2024-11-04, the last of 2024-01-15: rows stand in the order of their days, the oldest first" \
     "row 3 (N2): warning: units 1,000 is read as 1000" \
-    "nothing is kept, since not all was accepted: entries and lots are named above as the call would have made them"
+    "$nothing_kept"
 { head -n 1 "$scratch/without.csv" && tail -n +2 "$scratch/without.csv" | tac; } >"$scratch/oldest.csv"
 import north oldest.csv --all-or-none
 step "the oldest row first" 0 $'1 accepted\n2 accepted\n3 accepted\n4 accepted' "row 2 (N2): warning: units 1,000 is read as 1000"
@@ -107,7 +107,7 @@ step "a split" 0 "1 accepted"
 import south later.csv --all-or-none
 step "a file that overlaps, with the row by hand" 1 $'1 repeat\n2 repeat\n3 refused L1 KeyReused\n4 accepted' \
     "row 3 (S3): L1 KeyReused: another command has this key already: entry 13, with the line \`Assets:South -5 WIDG {2024-02-01} @ 130 EUR\` in place of \`Assets:South -8 WIDG {} @ 130 EUR\`; --except S3 leaves it out" \
-    "nothing is kept, since not all was accepted: entries and lots are named above as the call would have made them"
+    "$nothing_kept"
 import south later.csv --all-or-none --except S3
 step "the same without that row" 0 $'1 repeat\n2 repeat\n4 accepted' "row 3 (S3): left out: S3,2024-09-02,SELL,WIDG,8,130.00,EUR,"
 { cat "$scratch/oldest.csv" && echo "N6,2024-12-10,BUY,BOND,100,1.05,USD,"; } >"$scratch/further.csv"

@@ -6,7 +6,7 @@ lotbook.1 and completions/.
 
     tools/pages.py            writes them
     tools/pages.py --check    compares them with the sources, and so the codes that pages and
-                              definitions name: a line `ok NAME` or `FAILED NAME: WHY` for each
+                              definitions name; each is a case of tests/lib/tally.py
 
 What is written comes from crates.txt, the `//!` of each crate, the `///` and the contracts of its
 public items, its `ghost use` lines, the comments of its definitions in specs/, the numbers of its
@@ -21,9 +21,11 @@ from collections import OrderedDict, namedtuple
 from pathlib import Path
 
 sys.dont_write_bytecode = True
+ROOT = Path(__file__).resolve().parent.parent
+sys.path.append(str(ROOT / "tests/lib"))
+import tally  # noqa: E402
 import words as subcommands  # noqa: E402
 
-ROOT = Path(__file__).resolve().parent.parent
 CRATES = ROOT / "crates"
 NOTICE = "<!-- Written by tools/pages.py from the sources: change those, and run it again. -->\n"
 LONGEST_CELL = 240
@@ -944,18 +946,13 @@ def wrong_codes():
 # ---- the call
 
 
-def check(name, faults):
-    """Writes the line of one check."""
-    faults = list(faults)
-    print("FAILED %s: %s" % (name, "; ".join(faults)) if faults else "ok " + name)
-
-
 def check_all():
     for page, wanted in generated().items():
         path = ROOT / page
         is_same = path.exists() and path.read_text() == wanted
-        check("what %s takes from the sources" % page, () if is_same else ["run tools/pages.py"])
-    check("the codes of lot_explain, of the definitions and of the pages", wrong_codes())
+        tally.check("what %s takes from the sources" % page, "" if is_same else "run tools/pages.py")
+    tally.check("the codes of lot_explain, of the definitions and of the pages", "; ".join(wrong_codes()))
+    tally.end()
 
 
 def main(words):

@@ -1,22 +1,18 @@
-# What the scripts here share that post to books in files. It is sourced by them, in their own folder, before `runs.sh`.
+# What the scripts of bench/ share that post to books in files. runs.sh sources it.
 
-# millis WORDS..: the milliseconds of a call of the program on this call's standard input, by the clock.
-millis() {
-    local begun ended
-    begun=$(date +%s%N)
-    "$program" "$@" >"$scratch/out" || return 1
-    ended=$(date +%s%N)
-    echo $(((ended - begun) / 1000000))
+# copied BOOK: a copy of a book, `copy.book`, in the place of the one that was there.
+copied() {
+    rm -f "$scratch/copy.book-wal"
+    cp "$1" "$scratch/copy.book"
 }
 
 # least COUNT BOOK TEXT: the milliseconds of a post of a text to a copy of a book, the least of so many.
 least() {
     local turn
     for ((turn = 0; turn < $1; turn++)); do
-        cp "$2" "$scratch/copy.book"
-        rm -f "$scratch/copy.book-wal"
-        millis post --book "$scratch/copy.book" --batch measured <"$3" || echo failed
-    done | sort -n | head -n 1
+        copied "$2"
+        millis "$3" post --book "$scratch/copy.book" --batch measured || echo failed
+    done | lowest
 }
 
 # each BOOK TEXT COMMANDS: the milliseconds of one command of a post to a book, without those of a post of nothing.
@@ -24,18 +20,25 @@ each() {
     local none all
     none=$(least 3 "$1" /dev/null)
     all=$(least 3 "$1" "$2")
-    if grep -q -m 1 -v accepted "$scratch/out"; then
-        echo "a command wasn't accepted: $(grep -m 1 -v accepted "$scratch/out")" >&2
-        exit 1
-    fi
+    accepted "$3"
     awk -v all="$all" -v none="$none" -v commands="$3" 'BEGIN { printf "%.4f\n", (all - none) / commands }'
 }
 
 # made BOOK: makes a book, and posts this call's standard input to it.
 made() {
     rm -f "$1" "$1-wal"
-    "$program" init --book "$1" >/dev/null && "$program" post --book "$1" --batch made >/dev/null
+    "$program" init --book "$1" </dev/null >/dev/null && "$program" post --book "$1" --batch made >/dev/null
 }
 
-# ratio A B: A in parts of B.
-ratio() { awk -v a="$1" -v b="$2" 'BEGIN { if (b > 0) printf "%.2f", a / b; else printf "-" }'; }
+# thirds COUNT [PRICES]: the accounts, then so many transactions, two purchases and a sale of one of them in turn; with a second word a price
+# of each commodity, too. A third of them is a lot that is held, a third a sale; a commodity has at most ten lots.
+thirds() {
+    awk -v count="$1" -v prices="${2:-}" 'BEGIN {
+        print "2020-01-01 open Assets:Broker \"FIFO\"\n2020-01-01 open Assets:Cash\n2020-01-01 open Income:Gains"
+        for (n = 0; n < count; n++) {
+            if (prices && n % 30 == 0) printf "2020-01-02 price C%d 120 USD\n", n / 30
+            if (n % 3 < 2) printf "2020-01-02 * \"Buy\"\n  Assets:Broker 2 C%d {%d.%02d USD}\n  Assets:Cash\n", n / 30, 100 + n % 30, n % 100
+            else printf "2020-01-02 * \"Sell\"\n  Assets:Broker -2 C%d {} @ 130 USD\n  Assets:Cash 260 USD\n  Income:Gains\n", n / 30
+        }
+    }'
+}

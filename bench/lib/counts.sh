@@ -1,4 +1,4 @@
-# What counts instead of timing: instructions by valgrind, and what is written to files by strace. It is sourced before `runs.sh`.
+# What counts instead of timing: instructions by valgrind, and what is written to files by strace. runs.sh sources it.
 # A count hardly differs from run to run, and the load of the machine doesn't change it.
 
 # count FILE WORDS..: the instructions of a call of the program with these words on a file, or a dash without valgrind. Its output

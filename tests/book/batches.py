@@ -5,8 +5,7 @@
 Several are up to four, or with --whole one for each command. The replies are those of the stored answer, with the numbers of their
 batch, and the tables hold what the stored answer prints, with the opening number that the legs give each lot, and no migrated entry.
 All or none, a text in which a command is refused has the same replies, and changes nothing; what of it is accepted is kept. A faulty
-text, each third one or with --whole each, has its fault, and changes nothing. It prints a line `ok NAME` or `FAILED NAME: ..`
-for each case.
+text, each third one or with --whole each, has its fault, and changes nothing.
 """
 
 import concurrent.futures
@@ -19,6 +18,7 @@ sys.path.append(os.path.join(os.path.dirname(os.path.abspath(__file__)), "..", "
 
 import notes
 import tables
+import tally
 
 SEVERAL = 4
 THIRD = 3
@@ -152,9 +152,9 @@ def main():
             jobs.append((case, pool.submit(fault_of_all_or_none, program, empty, book, answer, text.decode())))
         jobs.append((f"{len(texts)} faulty texts", pool.submit(faulty, program, empty, os.path.join(scratch, "faulty.book"), texts)))
         for case, job in jobs:
-            fault = job.result()
-            print(f"FAILED {case}: {fault}" if fault else f"ok {case}")
+            tally.check(case, job.result())
 
 
 if __name__ == "__main__":
     main()
+    tally.end()

@@ -7,7 +7,6 @@ other types. Then a report or a post that reads this row ends with S7, or with S
 is as it was changed. What tests/reports/ shows of damaged rows doesn't stand here again. A row of `opening` without its row of `lot`, or
 the other way round, is S7 of a post to that account and commodity with braces. No report reads `opening`, `verify` alone reads `migration`,
 and `migrate` reads `book` alone of a book of this edition: whatever stands there, the others answer as ever. `verify` meets each change.
-It prints a line `ok NAME` or `FAILED NAME: ..` for each case.
 """
 
 import concurrent.futures
@@ -22,6 +21,7 @@ sys.path.append(os.path.join(os.path.dirname(os.path.abspath(__file__)), "..", "
 
 import notes
 import tables
+import tally
 
 LEDGER = """\
 2020-01-01 open Assets:Broker USD,HOOL "FIFO"
@@ -479,7 +479,7 @@ def main():
     first = os.path.join(scratch, "first.book")
     call(program, ["init", "--book", first])
     made = call(program, ["post", "--book", first, "--batch", "a"], LEDGER)
-    print("ok the book" if made == ("".join(f"{it} accepted\n" for it in range(1, 10)), "", 0) else f"FAILED the book: {made}")
+    tally.check("the book", "" if made == ("".join(f"{it} accepted\n" for it in range(1, 10)), "", 0) else f"{made}")
     with concurrent.futures.ThreadPoolExecutor(os.cpu_count()) as pool:
         count = 0
 
@@ -496,7 +496,7 @@ def main():
         answers = {name: job.result() for name, job in [(name, on_copy(probe, name)) for name in PROBES]}
         sound = {name: answer[0].splitlines() for name, answer in answers.items()}
         wrong = [name for name, lines in sound.items() if not lines or "fault" in lines[-1]]
-        print(f"FAILED without a change: {wrong}" if wrong else "ok without a change each is answered")
+        tally.check("without a change each is answered", f"not {wrong}" if wrong else "")
         jobs = [(case, on_copy(fault_of, statements, name, fault, sound[name])) for case, statements, name, fault in cases]
         jobs += [(case, on_copy(as_ever, statements, name, answers[name])) for case, statements, name in passed_over]
         jobs += [(f"init where there is {what}", on_copy(taken, make, drop, copies=False)) for what, make, drop in takings()]
@@ -504,9 +504,9 @@ def main():
         jobs.append(("lots whose labels have each byte", on_copy(labelled, copies=False)))
         jobs.append(("rows whose references have each byte", on_copy(named, copies=False)))
         for case, job in jobs:
-            fault = job.result()
-            print(f"FAILED {case}: {fault}" if fault else f"ok {case}", flush=True)
+            tally.check(case, job.result())
 
 
 if __name__ == "__main__":
     main()
+    tally.end()

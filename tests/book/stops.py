@@ -5,17 +5,20 @@
 The book that is left in the end has the rows of one that was posted to without a stop, and after each stop it has every
 command that was acknowledged. Twice as often it is killed while a book is made. With --crumbs each post has a rounding account, which
 most commands need, and no making is stopped. With --all-or-none the post keeps all commands or none, so after each stop the book has
-all of them or none, and all where a reply was written; no making is stopped, either. A line `ok NAME` or `FAILED NAME: ..` for each
-case.
+all of them or none, and all where a reply was written; no making is stopped, either.
 """
 
-import argparse
 import os
 import random
 import subprocess
+import sys
 import time
 
+sys.path.append(os.path.join(os.path.dirname(os.path.abspath(__file__)), "..", "lib"))
+
+import stopping
 import tables
+import tally
 
 CASES = (
     "2020-01-01 open Assets:Broker \"FIFO\"\n",
@@ -74,13 +77,6 @@ def uninterrupted(program, scratch, path, options):
     return book, answered(output), time.monotonic() - begun
 
 
-def kill_at(rng, run, most):
-    """Kills a run at a random moment, and returns what it had written by then."""
-    time.sleep(rng.uniform(0, most))
-    run.kill()
-    return run.communicate(timeout=600)[0]
-
-
 def stopped_posts(program, scratch, path, rng, kills, count, took, options):
     """One book after another is posted to, killed and sent on, until there were so many stops."""
     stops = books = 0
@@ -92,7 +88,7 @@ def stopped_posts(program, scratch, path, rng, kills, count, took, options):
         while first <= count:
             run = post(program, book, path, first, options)
             is_last = stops >= kills
-            output = run.communicate(timeout=600)[0] if is_last else kill_at(rng, run, took / 4)
+            output = run.communicate(timeout=600)[0] if is_last else stopping.kill_at(run, rng.uniform(0, took / 4))
             stops += run.returncode < 0
             lines, stood = answered(output)
             if [line.split(" ")[0] for line in lines] != [str(first + at) for at in range(len(lines))]:
@@ -120,7 +116,7 @@ def stopped_batches(program, scratch, path, rng, kills, count, took, options):
         stood, is_over = 0, False
         while not is_over:
             run = post(program, book, path, 1, options)
-            output = kill_at(rng, run, took) if stops < kills else run.communicate(timeout=600)[0]
+            output = stopping.kill_at(run, rng.uniform(0, took)) if stops < kills else run.communicate(timeout=600)[0]
             is_killed, is_over = run.returncode < 0, run.returncode == 0
             stops += is_killed
             if not is_killed and not is_over:
@@ -154,7 +150,7 @@ def stopped_inits(program, scratch, rng, kills):
     for number in range(kills):
         book = os.path.join(scratch, f"init-{number}.book")
         run = subprocess.Popen([program, "init", "--book", book], stdout=subprocess.PIPE)
-        output = kill_at(rng, run, took)
+        output = stopping.kill_at(run, rng.uniform(0, took))
         # Those count that had begun with the file and hadn't said yet that the book is made.
         unready += run.returncode < 0 and not output and os.path.exists(book)
         again = subprocess.run([program, "init", "--book", book], capture_output=True, timeout=600)
@@ -170,12 +166,7 @@ def stopped_inits(program, scratch, rng, kills):
 
 
 def main():
-    parser = argparse.ArgumentParser()
-    parser.add_argument("program")
-    parser.add_argument("scratch")
-    parser.add_argument("--commands", type=int, default=300)
-    parser.add_argument("--kills", type=int, default=100)
-    parser.add_argument("--seed", type=int, default=1)
+    parser = tally.words("program", "scratch", commands=300, kills=100, seed=1)
     parser.add_argument("--crumbs", action="store_true")
     parser.add_argument("--all-or-none", action="store_true")
     words = parser.parse_args()
@@ -190,16 +181,14 @@ def main():
     fault = "" if len(lines) == words.commands and entries(book) == stood else f"{len(lines)} replies, {entries(book)} entries"
     if words.crumbs and b"Equity:Rounding" not in b"".join(journal(words.program, book).split(b"\n")[8:]):
         fault = "no crumb"
-    print(f"FAILED a run without a stop{kind}: {fault}" if fault else f"ok a run without a stop{kind}")
+    tally.check(f"a run without a stop{kind}", fault)
     stopped = stopped_batches if words.all_or_none else stopped_posts
     fault = stopped(words.program, words.scratch, path, rng, words.kills, words.commands, took, options)
-    name = f"killed {words.kills} times{kind}, no acknowledged command is lost, and the rows are those of one run"
-    print(f"FAILED {name}: {fault}" if fault else f"ok {name}")
-    if words.crumbs or words.all_or_none:
-        return
-    fault = stopped_inits(words.program, words.scratch, rng, 2 * words.kills)
-    print(f"FAILED killed while a book is made: {fault}" if fault else "ok killed while a book is made")
+    tally.check(f"killed {words.kills} times{kind}, no acknowledged command is lost, and the rows are those of one run", fault)
+    if not words.crumbs and not words.all_or_none:
+        tally.check("killed while a book is made", stopped_inits(words.program, words.scratch, rng, 2 * words.kills))
 
 
 if __name__ == "__main__":
     main()
+    tally.end()

@@ -32,6 +32,8 @@ OF_EDITION_1, ADDED = TABLES[:11], TABLES[11:]
 OLDER = os.path.join(os.path.dirname(os.path.abspath(__file__)), "edition-1.sql")
 
 KEY = "account, commodity, cost_day, cost_currency, cost_number, cost_label"
+ENDS = ("", "-wal", "-shm", "-journal")  # of the names of a book's file and of those beside it
+PAGE = 4096
 
 
 def connect(path):
@@ -49,18 +51,42 @@ def contents(path, names=TABLES):
         return {table: sorted(db.execute(f"SELECT * FROM {table}"), key=repr) for table in names}
 
 
+def removed(path):
+    """The path of a book, at which nothing lies any more, nor beside it."""
+    for end in ENDS:
+        if os.path.isdir(path + end) and not os.path.islink(path + end):
+            shutil.rmtree(path + end)
+        elif os.path.lexists(path + end):
+            os.remove(path + end)
+    return path
+
+
+def copied(path, copy, ends=ENDS[:2]):
+    """The path of a copy of a book's file and of its log, in the place of what was there; with ENDS of all that lies beside it."""
+    removed(copy)
+    for end in ends:
+        if os.path.isfile(path + end):
+            shutil.copyfile(path + end, copy + end)
+    return copy
+
+
+def bytes_of(path):
+    """The bytes of a book's file and of the commits in its log, where they are there: a log shorter than a page holds none."""
+    held = []
+    for end, least in (("", 0), ("-wal", PAGE)):
+        if os.path.isfile(path + end) and os.path.getsize(path + end) >= least:
+            with open(path + end, "rb") as file:
+                held.append((end, file.read()))
+    return held
+
+
 def of_copy(path, read):
     """What `read` finds in a copy of a book's files: SQLite would mend the files that it looks into."""
-    copy = path + ".copy"
-    for end in ("", "-wal"):
-        if os.path.exists(path + end):
-            shutil.copyfile(path + end, copy + end)
+    copy = copied(path, path + ".copy")
     try:
         return read(copy)
     finally:
-        for end in ("", "-wal", "-shm"):
-            if os.path.exists(copy + end):
-                os.remove(copy + end)
+        removed(copy)
 
 
 def number_of(day):
@@ -164,14 +190,19 @@ def openings_of_legs(path):
     return [opening_text(key, numbers[key]) for key in sorted(held) if held[key]]
 
 
+def sales_of(db):
+    """The row of each sale, and of each of its legs units, number, currency, day and label."""
+    sales = "SELECT entry, posting, day, account, commodity, units, kind, amount, currency FROM sale ORDER BY entry, posting"
+    legs_of = "SELECT units, cost_number, cost_currency, cost_day, cost_label FROM leg WHERE entry = ? AND posting = ? ORDER BY place"
+    for sale in db.execute(sales):
+        yield sale, list(db.execute(legs_of, sale[:2]))
+
+
 def gains(path):
     """The lines that the program prints of these rows (docs/FORMATS.md, Gains)."""
     lines, totals = [], {}
     with connect(path) as db:
-        sales = "SELECT entry, posting, day, account, commodity, units, kind, amount, currency FROM sale ORDER BY entry, posting"
-        legs_of = "SELECT units, cost_number, cost_currency, cost_day, cost_label FROM leg WHERE entry = ? AND posting = ? ORDER BY place"
-        for entry, posting, day, account, commodity, units, kind, amount, currency in db.execute(sales):
-            legs = list(db.execute(legs_of, (entry, posting)))
+        for (_, _, day, account, commodity, units, kind, amount, currency), legs in sales_of(db):
             line = f"{day_text(day)} {account} {model.number_text(units)} {commodity}"
             if kind and all(leg[2] == currency for leg in legs):
                 cost = sum(-leg[0] * leg[1] for leg in legs)
@@ -197,10 +228,7 @@ def gains_csv(path):
     """The lines that the program prints of these rows as CSV (docs/FORMATS.md, Tables for a spreadsheet)."""
     lines = ["entry,posting,account,commodity,units,acquired,sold,days_held,label,unit_cost,currency,proceeds,cost,gain"]
     with connect(path) as db:
-        sales = "SELECT entry, posting, day, account, commodity, units, kind, amount, currency FROM sale ORDER BY entry, posting"
-        legs_of = "SELECT units, cost_number, cost_currency, cost_day, cost_label FROM leg WHERE entry = ? AND posting = ? ORDER BY place"
-        for entry, posting, day, account, commodity, units, kind, amount, currency in db.execute(sales):
-            legs = list(db.execute(legs_of, (entry, posting)))
+        for (entry, posting, day, account, commodity, units, kind, amount, currency), legs in sales_of(db):
             is_priced = kind and all(leg[2] == currency for leg in legs)
             proceeds = proceeds_of(kind, amount, units, legs) if is_priced else [None] * len(legs)
             for (taken, number, cost_currency, acquired, label), got in zip(legs, proceeds):

@@ -4,17 +4,13 @@
 
 Each seed gives a book and files that are imported into it one after another, each in one batch. With --crumbs that is done with a
 rounding account, last once without one; the reports are then compared, too, and the journal is posted to another book without the
-options, which comes to the same tables. It prints a line `ok NAME` or
-`FAILED NAME: ..` for each case. A case is the files of 25 seeds, or something that has to occur at least some times. For a
+options, which comes to the same tables. A case is the files of 25 seeds, or something that has to occur at least some times. For a
 file whose answer is another one, its seed, the file and the two answers go to standard error; to repeat that seed alone:
 --first SEED --count 1.
 """
 
-import argparse
 import collections
-import concurrent.futures
 import functools
-import os
 import pathlib
 import subprocess
 import sys
@@ -31,6 +27,7 @@ import notes
 import reader
 import reports
 import tables
+import tally
 
 A_CASE = 25  # seeds
 AT_LEAST = 3  # times that each kind occurs
@@ -214,42 +211,17 @@ def compare(program, has_crumbs, seed):
     return "".join(differences), book.seen if has_crumbs else census
 
 
-def compare_seeds(program, has_crumbs, seeds):
-    differing = {}
-    census = collections.Counter()
-    for seed in seeds:
-        found, occurring = compare(program, has_crumbs, seed)
-        census += occurring
-        if found:
-            differing[seed] = found
-    return differing, census
-
-
-def report(name, differing):
-    for seed, difference in differing.items():
-        print(f"seed {seed}\n{difference}", file=sys.stderr)
-    print(f"FAILED {name}: other answers for {len(differing)} seeds" if differing else f"ok {name}", flush=True)
-
-
 def main():
-    words = argparse.ArgumentParser()
-    words.add_argument("program")
-    words.add_argument("--first", type=int, default=1)
-    words.add_argument("--count", type=int, default=200)
+    words = tally.words("program", first=1, count=200)
     words.add_argument("--crumbs", action="store_true")
     words = words.parse_args()
-    seeds = range(words.first, words.first + words.count)
-    parts = [seeds[at : at + A_CASE] for at in range(0, len(seeds), A_CASE)]
-    census = collections.Counter()
-    with concurrent.futures.ProcessPoolExecutor(os.cpu_count()) as processes:
-        for part, (differing, occurring) in zip(parts, processes.map(functools.partial(compare_seeds, words.program, words.crumbs), parts)):
-            census += occurring
-            report(f"the broker files{' with crumbs' * words.crumbs} of the seeds {part[0]} to {part[-1]}", differing)
+    files = "the broker files" + " with crumbs" * words.crumbs
+    of_seed = functools.partial(compare, words.program, words.crumbs)
+    census = tally.sweep(tally.drawn(files + " of the seeds {} to {}", of_seed, words, A_CASE))
     if words.count >= 100:
-        for kind in KINDS_OF_CRUMBS if words.crumbs else KINDS:
-            times = census[kind]
-            print(f"ok {kind}" if times >= AT_LEAST else f"FAILED {kind}: it occurs {times} times")
+        tally.occurs(KINDS_OF_CRUMBS if words.crumbs else KINDS, census, AT_LEAST, "{0}")
 
 
 if __name__ == "__main__":
     main()
+    tally.end()

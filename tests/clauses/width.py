@@ -5,8 +5,13 @@
 
 import collections
 import glob
+import os
 import re
 import sys
+
+sys.path.append(os.path.join(os.path.dirname(os.path.abspath(__file__)), "..", "lib"))
+
+import tally
 
 MOST = 100
 PART = re.compile(r"\s+(ensures|requires|→|×|⊎|↔|\(|λ)")
@@ -29,9 +34,9 @@ def main():
     for folder in sorted(glob.glob("crates/*/src")):
         crate = folder.split("/")[1]
         places = found[crate]
-        print(f"FAILED the clauses of {crate}: {len(places)} wide lines: {'; '.join(places[:5])}" if places else f"ok the clauses of {crate}")
-    return 1 if any(found.values()) else 0
+        tally.check(f"the clauses of {crate}", f"{len(places)} wide lines: {'; '.join(places[:5])}" if places else "")
 
 
 if __name__ == "__main__":
-    sys.exit(main())
+    main()
+    tally.end()

@@ -5,14 +5,14 @@
 The plain records are written from docs/FORMATS.md and docs/RULES.md alone, over the entries of the plain judge of tests/random/.
 Each ledger is posted to a new book; then its holdings, with and without days, and its gains, whole and in ranges, are asked for as
 CSV. What is printed has to be what Python's `csv` writes of the plain records, byte for byte, and to read back as they are. Of the
-same gains as text, each sale has to be what its records add up to, exactly. It prints a line `ok NAME` or `FAILED NAME: ..` for the
-ledgers of a hundred seeds, and for each kind of record, which has to occur. A difference goes to standard error, with its seed.
+same gains as text, each sale has to be what its records add up to, exactly. A case is the ledgers of a hundred seeds, or a kind of
+record, which has to occur. A difference goes to standard error, with its seed.
 """
 
-import argparse
 import collections
 import csv
 import datetime
+import functools
 import io
 import os
 import random
@@ -21,13 +21,16 @@ import subprocess
 import sys
 from decimal import Decimal, getcontext
 
-sys.path.append(os.path.join(os.path.dirname(os.path.abspath(__file__)), "..", "random"))
+for folder in ("random", "book", "lib"):
+    sys.path.append(os.path.join(os.path.dirname(os.path.abspath(__file__)), "..", folder))
 
 import draw
 import model
 import reports
 import spell
-from model import ONE, day_text, key_order, money_text, number_text
+import tables
+import tally
+from model import ONE, day_text, key_order, number_text
 
 getcontext().prec = 60
 
@@ -177,34 +180,17 @@ def compare(program, scratch, seed):
             differs = sums_differ(plain[0], got[0])
             if differs:
                 found += f"--- {' '.join(words)}: {differs}\n"
-    for name in (book, book + "-wal"):
-        if os.path.exists(name):
-            os.remove(name)
+    tables.removed(book)
     return found and text.decode() + found, seen
 
 
 def main():
-    words = argparse.ArgumentParser()
-    words.add_argument("program")
-    words.add_argument("scratch")
-    words.add_argument("--first", type=int, default=1)
-    words.add_argument("--count", type=int, default=100)
-    words = words.parse_args()
-    census = collections.Counter()
-    for start in range(words.first, words.first + words.count, A_CASE):
-        seeds = range(start, min(start + A_CASE, words.first + words.count))
-        differing = 0
-        for seed in seeds:
-            found, seen = compare(words.program, words.scratch, seed)
-            census.update({kind: 1 for kind in seen if seen[kind]})
-            if found:
-                differing += 1
-                print(f"seed {seed}\n{found}", file=sys.stderr)
-        name = f"tables of the ledgers of seeds {seeds[0]} to {seeds[-1]}"
-        print(f"FAILED {name}: {differing} differ" if differing else f"ok {name}")
-    for kind in KINDS:
-        print(f"ok a table has {kind}" if census[kind] else f"FAILED a table has {kind}: it doesn't occur")
+    words = tally.words("program", "scratch", first=1, count=100).parse_args()
+    of_seed = functools.partial(compare, words.program, words.scratch)
+    census = tally.sweep(tally.drawn("tables of the ledgers of seeds {} to {}", of_seed, words, A_CASE))
+    tally.occurs(KINDS, census, 1, "a table has {0}")
 
 
 if __name__ == "__main__":
     main()
+    tally.end()

@@ -16,15 +16,12 @@ this one and each that follows. Of each copy:
 
 After each copy the files are set back, since the process that it was taken from goes on with them. That process is the run that is
 refused nothing. Of the short calls each growth is refused, and with --whole of all; else of the others each STEPth. --only takes the
-calls whose names have that text in them. It prints a line `ok NAME` or `FAILED NAME: ..` for each call, and writes its counts to the
-file COUNTS.
+calls whose names have that text in them. A case is a call. The counts of all go to the file COUNTS.
 """
 
-import argparse
 import concurrent.futures
 import dataclasses
 import hashlib
-import itertools
 import os
 import socket
 import sqlite3
@@ -41,6 +38,7 @@ for folder in ("book", "lib"):
 import batches  # noqa: E402  (the folders are named above)
 import notes  # noqa: E402
 import tables  # noqa: E402
+import tally  # noqa: E402
 
 # What refuse.c says.
 MESSAGE = struct.Struct("=iiiiqqqqq")
@@ -482,7 +480,7 @@ def found_of(words, scratch, number, call, step):
 
 
 def sweep_all(words, scratch):
-    """Prints a line for each call, and returns what was found in all."""
+    """Tells each call, and returns what was found in all."""
     sale = content(EXAMPLES, "first-sale.ledger") + b"2020-06-15 price HOOL 530 USD\n2020-12-31 price HOOL 520 USD\n"
     texts = {
         "the first purchase": content(EXAMPLES, "first-purchase.ledger"),
@@ -509,15 +507,12 @@ def sweep_all(words, scratch):
             found = job.result()
             total.add(found)
             faults = found.faults
-            print(f"FAILED {name}: {len(faults)} differences, the first: {faults[0]}" if faults else f"ok {name}", flush=True)
+            tally.check(name, f"{len(faults)} differences, the first: {faults[0]}" if faults else "")
     return total
 
 
 def main():
-    parser = argparse.ArgumentParser()
-    parser.add_argument("program")
-    parser.add_argument("library")
-    parser.add_argument("counts")
+    parser = tally.words("program", "library", "counts")
     parser.add_argument("--whole", action="store_true")
     parser.add_argument("--only", default="")
     words = parser.parse_args()
@@ -533,3 +528,4 @@ def main():
 
 if __name__ == "__main__":
     main()
+    tally.end()

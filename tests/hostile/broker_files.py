@@ -18,6 +18,8 @@ import compare
 import draw
 import model
 import reader
+import tables
+import tally
 
 LONGEST_INPUT = 16_777_216
 MOST_COLUMNS = 100_000
@@ -43,12 +45,12 @@ class Imports:
         at = compare.Program(program, scratch)
         at.begin(openings())
         self.program, self.first, self.book = program, at.book, at.book + f"-{os.getpid()}"
-        self.before = sweep.bytes_of(self.first)
+        self.before = tables.bytes_of(self.first)
         self.words = ["import", "--book", self.book, "--batch", "x"]
         self.words += [word for name, account in draw.ACCOUNTS._asdict().items() for word in ("--" + name, account)]
 
     def get(self, file):
-        sweep.copied(self.first, self.book)
+        tables.copied(self.first, self.book)
         return sweep.call(self.program, self.words, file)
 
     def see(self, done, case, file):
@@ -58,7 +60,7 @@ class Imports:
         outcome = " ".join(word for word in wanted[0].decode().split("\n")[0].split() if not word.isdigit())
         done.compare(f"{case}: {file!r}", outcome or "no rows", wanted, self.get(file), may_warn=True)
         if wanted[1] == 3:
-            done.also("" if sweep.bytes_of(self.book) == self.before else f"{case}: {file!r}: the book changed")
+            done.also("" if tables.bytes_of(self.book) == self.before else f"{case}: {file!r}: the book changed")
         else:
             held = sweep.call(self.program, ["holdings", "--book", self.book])
             done.compare(f"holdings after {case}: {file!r}", "holdings", judge.holdings(), held)
@@ -163,3 +165,4 @@ def main():
 
 if __name__ == "__main__":
     main()
+    tally.end()

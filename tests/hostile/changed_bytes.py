@@ -18,7 +18,8 @@ import sweep
 import changed
 import stops
 import tables
-from small_book import COUNT, PAGE, REPORTS, UNREADABLE, WORDS, WRITERS, ask, read, small_book, with_log
+import tally
+from small_book import COUNT, REPORTS, UNREADABLE, WORDS, WRITERS, ask, read, small_book, with_log
 
 CHANGES = 20_000  # of the file, and a tenth of them of the log
 CHANGES_IN_THE_GATE = 40
@@ -40,12 +41,12 @@ def is_sound(path):
 
 def used_places(data):
     """The places that hold something: headers of pages, pointers to cells, and cells. What lies between them is free."""
-    for start in range(0, len(data), PAGE):
+    for start in range(0, len(data), tables.PAGE):
         at = start + (100 if start == 0 else 0)
         cells, content = (int.from_bytes(data[at + place : at + place + 2], "big") for place in (3, 5))
         # The pages of a small book are leaves.
         yield from range(start, at + 8 + 2 * cells)
-        yield from range(start + content, start + PAGE)
+        yield from range(start + content, start + tables.PAGE)
 
 
 def expected(printed, path):
@@ -133,11 +134,11 @@ def outcome_of(word, got, book, path, asked):
     """What the answer of a word is, and what is wrong with it, or nothing. It was asked of a copy of the changed file."""
     if wrong := sweep.strange(got):
         return "strange", wrong
-    sqlite_reads = sweep.copied(path, path + ".read")  # it may change the files that it looks into
+    sqlite_reads = tables.copied(path, path + ".read")  # it may change the files that it looks into
     if word in WRITERS:
         outcome, wrong = outcome_of_writer(word, got, book, sqlite_reads)
-        return outcome, wrong or miscounted(got, sqlite_reads, sweep.copied(asked, path + ".after"))
-    is_kept = sweep.bytes_of(asked) == sweep.bytes_of(path)
+        return outcome, wrong or miscounted(got, sqlite_reads, tables.copied(asked, path + ".after"))
+    is_kept = tables.bytes_of(asked) == tables.bytes_of(path)
     if word == "init":
         outcome, wrong = outcome_of_init(got, sqlite_reads)
         is_kept = is_kept or outcome == MADE
@@ -162,11 +163,11 @@ def file_changes(words):
     os.makedirs(folder, exist_ok=True)
     path, asked = os.path.join(folder, "changed.book"), os.path.join(folder, "asked.book")
     for at, byte in cases:
-        sweep.removed(path)
+        tables.removed(path)
         with open(path, "wb") as file:
             file.write(with_byte(book.data, at, byte))
         for word in WORDS:
-            got = ask(program, sweep.copied(path, asked), word)
+            got = ask(program, tables.copied(path, asked), word)
             outcome, wrong = outcome_of(word, got, book, path, asked)
             done.saw(f"{word} {outcome}", wrong and f"{word}, byte {at} from {book.data[at]} to {byte}: {wrong}\n{got}")
     shutil.rmtree(folder)
@@ -178,9 +179,9 @@ def file_changes(words):
 
 def commits_of(log):
     """The places in a log at which its commits end: frames that name the size of the database."""
-    for at in range(LOG_HEADER, len(log) - FRAME_HEADER - PAGE + 1, FRAME_HEADER + PAGE):
+    for at in range(LOG_HEADER, len(log) - FRAME_HEADER - tables.PAGE + 1, FRAME_HEADER + tables.PAGE):
         if int.from_bytes(log[at + 4 : at + 8], "big"):
-            yield at + FRAME_HEADER + PAGE
+            yield at + FRAME_HEADER + tables.PAGE
 
 
 def entries_in(path):
@@ -203,8 +204,8 @@ class Logged(NamedTuple):
 
 def logged_book(program, path):
     with_log(program, path)
-    file, log = sweep.bytes_of(path)
-    asked = sweep.copied(path, path + ".asked")
+    (_, file), (_, log) = tables.bytes_of(path)
+    asked = tables.copied(path, path + ".asked")
     journal = ask(program, asked, "journal").output
     entries = [b"; entry" + entry for entry in journal.split(b"; entry")[1:]]
     return Logged(path, file, log, [b"".join(entries[:count]) for count in range(len(entries) + 1)], tables.contents(asked))
@@ -222,7 +223,7 @@ def log_cases(words):
     path = os.path.join(folder, "changed.book")
     for at, byte in cases:
         name = "cut" if byte is None else "a changed byte"
-        sweep.removed(path)
+        tables.removed(path)
         log = book.log[:at] if byte is None else with_byte(book.log, at, byte)
         for end, data in (("", book.file), ("-wal", log)):
             with open(path + end, "wb") as file:
@@ -243,7 +244,7 @@ def log_cases(words):
 
 def changed_logs(book, rng, count):
     """Places of a log with another byte for each, of headers of frames more often than of pages."""
-    frame = FRAME_HEADER + PAGE
+    frame = FRAME_HEADER + tables.PAGE
     for _ in range(count):
         at = rng.randrange(len(book.log))
         if rng.random() < 0.5:
@@ -255,7 +256,7 @@ def changed_logs(book, rng, count):
 
 def cut_logs(book, rng, whole):
     """Places at which a log ends: each page, and some others."""
-    places = range(LOG_HEADER, len(book.log) + 1, FRAME_HEADER + PAGE)
+    places = range(LOG_HEADER, len(book.log) + 1, FRAME_HEADER + tables.PAGE)
     places = [*places] if whole else sorted({*commits_of(book.log), *rng.sample(places, 12)})
     places += [0, 1, LOG_HEADER - 1, *(place - 1 for place in places), *rng.sample(range(len(book.log)), 200 if whole else 10)]
     for at in places:
@@ -288,3 +289,4 @@ def main():
 
 if __name__ == "__main__":
     main()
+    tally.end()

@@ -16,6 +16,7 @@ import sweep
 
 import changed
 import tables
+import tally
 from small_book import READERS, WORDS, WRITERS, ask, small_book, with_log
 
 IN_THE_GATE = 80  # calls on tables of another form, and on values that no book has, of some two thousand each
@@ -46,7 +47,7 @@ def rewritten(*statements):
     """The book, written anew by SQLite's own library after these statements."""
 
     def make(path, sound):
-        with tables.connect(sweep.copied(sound.path, path)) as db:
+        with tables.connect(tables.copied(sound.path, path)) as db:
             for statement in ("PRAGMA journal_mode = DELETE", *statements, "VACUUM"):
                 db.execute(statement)
 
@@ -73,7 +74,7 @@ def beside(end, make):
     """The book, and something beside it."""
 
     def both(path, sound):
-        sweep.copied(sound.path, path)
+        tables.copied(sound.path, path)
         if os.path.exists(path + end):
             os.remove(path + end)
         make(path + end, sound)
@@ -187,10 +188,10 @@ def kind_fault(program, sound, folder, make, wanted, word, **streams):
         if got != sound.answers[word]:
             return f"another answer than of the book\n{got}"
     if wanted == MIGRATED:
-        there = tables.contents(sweep.copied(path, folder + ".read"))
+        there = tables.contents(tables.copied(path, folder + ".read"))
         return "" if (there["book"], there["migration"]) == ([("lot-book", 2)], [(7,)]) else "it isn't migrated"
     if wanted == RIGHT:
-        there = tables.contents(sweep.copied(path, folder + ".read"))  # SQLite's own library wouldn't open it beside a folder
+        there = tables.contents(tables.copied(path, folder + ".read"))  # SQLite's own library wouldn't open it beside a folder
         stands = sound.then[word] if word in WRITERS else {table: sound.held[table] for table in tables.TABLES}
         return "" if there == stands else "the book holds something else"
     if (got.output, got.status) != (sweep.lines(f"fault {wanted}"), 4) or (wanted == OPEN and not got.errors):
@@ -245,13 +246,13 @@ def other_logs(program, sound, scratch):
     path = os.path.join(scratch, "exchanged.book")
     for what, make in {
         "an empty book": lambda: sweep.made(program, path),
-        "the same book": lambda: sweep.copied(sound.path, path),
+        "the same book": lambda: tables.copied(sound.path, path),
         "a longer book": lambda: sweep.made(program, path, b"".join(b"2020-01-01 open Assets:A%d\n" % number for number in range(200))),
         "no book": lambda: filled(b"")(path, sound),
         "a database of another program": lambda: another_program(path, sound),
     }.items():
         for word in WORDS:
-            sweep.removed(path)
+            tables.removed(path)
             make()
             shutil.copyfile(other + "-wal", path + "-wal")
             got = ask(program, path, word)
@@ -347,14 +348,14 @@ def probed_book(program, path):
         columns = {table: [row[1] for row in db.execute(f"PRAGMA table_info({table})")] for table in tables.TABLES}
     answers, then = {}, {}
     for name in changed.PROBES:
-        copy = sweep.copied(path, path + ".probed")
+        copy = tables.copied(path, path + ".probed")
         answers[name], then[name] = probed(program, copy, name), rows_of(copy, columns)
     return Sound(path, columns, answers, then)
 
 
 def outcome_of_form(program, sound, path, statements, allowed, name):
     """The outcome of a probe on a book with a table of another form, and what is wrong with it, or nothing."""
-    sweep.copied(sound.path, path)
+    tables.copied(sound.path, path)
     held = changed.changed(path, statements)
     got = probed(program, path, name)
     outcome = RIGHT if got == sound.answers[name] else got.fault() or "another"
@@ -380,7 +381,7 @@ def form_cases(words):
     for form, table, statements, allowed, name in cases:
         outcome, wrong = outcome_of_form(program, sound, path, statements, allowed, name)
         done.saw(outcome, wrong and f"{name} with {form}, {table}: {wrong}")
-    sweep.removed(path)
+    tables.removed(path)
     return done
 
 
@@ -396,20 +397,20 @@ def value_cases(words):
     done = sweep.Sweep()
     path, missing = (os.path.join(scratch, f"{name}-{os.getpid()}.book") for name in ("value", "missing"))
     for table, row, column, value, name in cases:
-        held = changed.changed(sweep.copied(sound.path, path), [f"UPDATE {table} SET {column} = {value} WHERE {row}"])
+        held = changed.changed(tables.copied(sound.path, path), [f"UPDATE {table} SET {column} = {value} WHERE {row}"])
         got = probed(program, path, name)
         wrong = sweep.strange(got)
         outcome = RIGHT if got == sound.answers[name] else got.fault() or "as without the row"
         if outcome == "as without the row":
-            changed.changed(sweep.copied(sound.path, missing), [f"DELETE FROM {table} WHERE {row}"])
+            changed.changed(tables.copied(sound.path, missing), [f"DELETE FROM {table} WHERE {row}"])
             wrong = wrong or ("" if got == probed(program, missing, name) else "another answer")
         elif outcome != RIGHT:
             with tables.connect(path) as db:
                 is_kept = changed.dump(db) == held
             wrong = wrong or ("" if outcome == DAMAGED and is_kept else "another fault, or the file holds something else")
         done.saw(outcome, wrong and f"{name} with {table}.{column} = {value}: {wrong}\n{got}")
-    sweep.removed(path)
-    sweep.removed(missing)
+    tables.removed(path)
+    tables.removed(missing)
     return done
 
 
@@ -449,3 +450,4 @@ def main():
 
 if __name__ == "__main__":
     main()
+    tally.end()

@@ -37,7 +37,6 @@ READERS = (*REPORTS, "verify")
 WORDS = ("init", "migrate", *READERS, *WRITERS)
 COUNT = sum(line[:1].isdigit() for line in changed.LEDGER.splitlines())  # of its entries
 
-PAGE = 4096
 SET_PIPE_SIZE, GET_PIPE_SIZE = 1031, 1032  # of fcntl(2)
 
 UNREADABLE = (sqlite3.Error, UnicodeError)  # the second where SQLite's message itself has other bytes
@@ -80,7 +79,7 @@ def small_book(program, path):
         data = file.read()
     held, answers, then = read(path), {}, {}
     for word in WORDS:
-        asked = sweep.copied(path, path + ".asked")
+        asked = tables.copied(path, path + ".asked")
         answers[word] = ask(program, asked, word)
         if word in WRITERS:
             then[word] = tables.contents(asked)
@@ -91,7 +90,7 @@ def with_log(program, book):
     """A book whose commands stand in its log alone: the program is stopped while it waits to write its last reply."""
     sweep.made(program, book)
     reading, writing = os.pipe()
-    fcntl.fcntl(writing, SET_PIPE_SIZE, PAGE)
+    fcntl.fcntl(writing, SET_PIPE_SIZE, tables.PAGE)
     replies = sum(len(f"{number} accepted\n") for number in range(1, COUNT + 1))
     os.write(writing, b"x" * (fcntl.fcntl(writing, GET_PIPE_SIZE) - replies + 1))
     text = os.memfd_create("text")

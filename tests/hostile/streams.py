@@ -10,8 +10,6 @@ import array
 import fcntl
 import os
 import pty
-import resource
-import signal
 import termios
 import threading
 import time
@@ -20,7 +18,9 @@ import tty
 import sweep
 
 import compare
+import stopping
 import tables
+import tally
 
 IN_THE_GATE = 12  # places of a sweep
 MOST_LINES = 50_000  # of a file that grows: with the comments less than an input may have
@@ -57,7 +57,7 @@ class Ground:
         self.book = os.path.join(scratch, "streams.book")
         self.limited = os.path.join(scratch, "limited")
         if os.path.exists(first):
-            self.held = tables.contents(sweep.copied(first, self.book))
+            self.held = tables.contents(tables.copied(first, self.book))
 
     def on(self, name):
         """The same with another book, which has still to be made."""
@@ -65,7 +65,7 @@ class Ground:
 
     def changed(self, name, change):
         """The same on a copy of the book, which is changed."""
-        change(sweep.copied(self.first, os.path.join(self.scratch, name)))
+        change(tables.copied(self.first, os.path.join(self.scratch, name)))
         return self.on(name)
 
     def ways(self):
@@ -76,7 +76,7 @@ class Ground:
 
     def call(self, words, text=b"", **streams):
         """A call on a fresh copy of the book."""
-        sweep.copied(self.first, self.book)
+        tables.copied(self.first, self.book)
         return sweep.call(self.program, words, text, **streams)
 
     def applied_nothing(self):
@@ -226,7 +226,7 @@ def odd_inputs(ground):
             done.compare(f"{name}, {what}", what, (sweep.lines("fault K1 Read"), 3), got)
             done.also(ground.applied_nothing())
     for name, words, _ in ground.ways():
-        with open(sweep.copied(ground.first, ground.book), "rb") as file:
+        with open(tables.copied(ground.first, ground.book), "rb") as file:
             data = file.read()
             file.seek(0)
             got = sweep.call(ground.program, words, stdin=file)
@@ -276,13 +276,9 @@ def limited(ground, words, text, count):
     with open(ground.limited, "wb") as file:
         file.truncate(ROOM - count)
 
-    def limit():
-        signal.signal(signal.SIGXFSZ, signal.SIG_IGN)
-        resource.setrlimit(resource.RLIMIT_FSIZE, (ROOM, ROOM))
-
     output = os.open(ground.limited, os.O_RDWR)
     os.lseek(output, 0, os.SEEK_END)
-    answer = ground.call(words, text, stdout=output, preexec_fn=limit)
+    answer = ground.call(words, text, stdout=output, preexec_fn=stopping.limited(ROOM))
     written = os.pread(output, count + 1, ROOM - count)
     os.close(output)
     return sweep.Answer(written, answer.status, answer.errors)
@@ -376,7 +372,7 @@ def limited_reports(ground, whole):
     """Reports of which so many bytes can be written, the book that is made, and the call without words."""
     done = sweep.Sweep()
     full = ground.changed("full.book", lambda book: sweep.call(ground.program, ["post", "--book", book, *POST], DEALS))
-    held = sweep.bytes_of(full.first)
+    held = tables.bytes_of(full.first)
     calls = [([], sweep.first_purchase())]
     for word, *more in (["holdings"], ["holdings", "--day", "2020-12-31"], ["gains"], ["journal"], ["dump"]):
         calls.append(([word, "--book", full.book, *more], b""))
@@ -387,7 +383,7 @@ def limited_reports(ground, whole):
             status = 4 if count < len(report) else 0
             done.compare(f"{words}, {count} bytes", words[0] if words else "without words", (report[:count], status), got)
             done.also(untold(got))
-            done.also("" if sweep.bytes_of(full.book) == held else f"{words}, {count} bytes: the book changed")
+            done.also("" if tables.bytes_of(full.book) == held else f"{words}, {count} bytes: the book changed")
     held = tables.contents(sweep.made(ground.program, os.path.join(ground.scratch, "empty.book")))
     ready, none = b"book ready\n", ground.on("none.book")
     for count in range(len(ready) + 1):
@@ -489,3 +485,4 @@ def main():
 
 if __name__ == "__main__":
     main()
+    tally.end()

@@ -1,15 +1,13 @@
 """What the sweeps of truncated and malicious input share: a call of the program, the lines that it may write, and how a sweep is told.
 
-A sweep is one line: `ok NAME: 1,234 cases, 900 this, 334 that`, or `FAILED NAME: ..`; its first differences go to standard error in full.
+A sweep is a case of tests/lib/tally.py: `ok NAME: 1,234 cases, 900 this, 334 that`; its first differences go to standard error in full.
 """
 
-import argparse
 import collections
 import concurrent.futures
 import os
 import random
 import re
-import shutil
 import subprocess
 import sys
 from typing import NamedTuple
@@ -19,6 +17,8 @@ for folder in ("random", "book", "lib"):
     sys.path.append(os.path.join(HERE, "..", folder))
 
 import notes  # noqa: E402  (the folders are named above)
+import tables  # noqa: E402
+import tally  # noqa: E402
 import text as second  # noqa: E402
 
 ROOT = os.path.join(HERE, "..", "..")
@@ -138,39 +138,9 @@ def first_purchase():
         return file.read()
 
 
-# Books.
-
-
-def files_of(book):
-    return [book + end for end in ("", "-wal") if os.path.isfile(book + end)]
-
-
-def copied(book, copy):
-    """A copy of a book and of its log, in the place of what was there."""
-    removed(copy)
-    for file in files_of(book):
-        shutil.copyfile(file, copy + file[len(book) :])
-    return copy
-
-
-def removed(book):
-    for end in ("", "-wal", "-shm", "-journal"):
-        if os.path.lexists(book + end):
-            os.remove(book + end)
-
-
-def bytes_of(book):
-    """The bytes of a book's file and of the commits in its log: one shorter than a page holds none."""
-    held = []
-    for file in files_of(book):
-        with open(file, "rb") as opened:
-            held.append(opened.read())
-    return held[:1] + [log for log in held[1:] if len(log) >= 4096]
-
-
 def made(program, book, text=b"", batch="a"):
     """Makes a book with these commands, which have to be accepted."""
-    removed(book)
+    tables.removed(book)
     answers = [call(program, ["init", "--book", book]), call(program, ["post", "--book", book, "--batch", batch], text)]
     if any(answer.status for answer in answers):
         sys.exit(f"no book could be made: {answers}")
@@ -209,17 +179,14 @@ class Sweep:
         self.differences += other.differences
 
     def tell(self, name, least=1):
-        """Prints the line of the sweep, which has to have at least so many cases."""
+        """Tells the sweep, which has to have at least so many cases."""
         count = sum(self.outcomes.values())
         for difference in self.differences[:SHOWN]:
             print(f"=== {name}\n{difference}", file=sys.stderr)
-        said = f"{count:,} cases" + "".join(f", {times:,} {outcome}" for outcome, times in sorted(self.outcomes.items()))
+        fault = f"fewer than {least:,} cases" if count < least else ""
         if self.differences:
-            print(f"FAILED {name}: {len(self.differences)} differ, first {self.differences[0][:300]!r}; {said}", flush=True)
-        elif count < least:
-            print(f"FAILED {name}: only {said}", flush=True)
-        else:
-            print(f"ok {name}: {said}", flush=True)
+            fault = f"{len(self.differences)} differ, first {self.differences[0][:300]!r}"
+        tally.check(name, fault, f"{count:,} cases" + "".join(f", {times:,} {outcome}" for outcome, times in sorted(self.outcomes.items())))
 
 
 def swept(pool, work, shared, cases):
@@ -236,10 +203,8 @@ def pool():
 
 
 def words_of_a_sweep():
-    """The words that each script takes."""
-    words = argparse.ArgumentParser()
-    words.add_argument("program")
-    words.add_argument("scratch")
+    """What reads the words that each script takes."""
+    words = tally.words("program", "scratch")
     words.add_argument("--whole", action="store_true", help="everything, not a sample alone")
     return words
 

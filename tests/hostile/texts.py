@@ -10,6 +10,7 @@ import sweep
 
 import compare
 import forms
+import tally
 
 LONGEST_INPUT = 16_777_216
 IN_THE_GATE = 1000  # changes of bytes, and a fifth of them cuts
@@ -155,7 +156,7 @@ def main():
     first = sweep.first_purchase()
     whole = ledgers()
     missing = set(forms.ALL) - {form for text in whole for form in forms.of(text)}
-    print(f"FAILED ledgers of every form: without {sorted(missing)[:5]}" if missing else "ok ledgers of every form", flush=True)
+    tally.check("ledgers of every form", f"without {sorted(missing)[:5]}" if missing else "")
     not_utf_8(words.program, first).tell("each byte of the first purchase as one that isn't UTF-8", len(first))
     two_cuts(words.program, first).tell("the first purchase cut within a cost, and before it")
     full_inputs(words.program, first, words.whole).tell("inputs of 16,777,216 bytes, and of one more")
@@ -173,3 +174,4 @@ def main():
 
 if __name__ == "__main__":
     main()
+    tally.end()

@@ -7,9 +7,12 @@ to standard error, and nothing is read or made. Each byte is tried as a batch. A
 """
 
 import os
+import re
 import shutil
 
 import sweep
+
+import tally
 
 LONGEST_WORD = 131_071  # bytes that the system takes in one word
 A_MEBIBYTE = 1 << 20
@@ -37,6 +40,13 @@ HEADER = b"ref,date,action,symbol,units,price,currency,fee\n"
 REQUIRED = ("--book", "--batch", "--invest", "--cash", "--fees", "--gains")
 # Values outside each option's rule, of which the program itself says which option it is: `clap` reads the value of --from.
 BAD = {"--batch": "/", "--invest": "A", "--cash": "A", "--fees": "A", "--gains": "A", "--day": "x", "--first": "x", "--last": "x", "--format": "x"}
+
+
+def words_of_books(program):
+    """The subcommands, by the program's help, that take a book."""
+    listed = sweep.call(program, ["help"]).output.decode().partition("Commands:\n")[2].partition("\n\n")[0]
+    helps = {word: sweep.call(program, [word, "-h"]).output.decode() for word in re.findall("^  ([a-z]+) ", listed, re.MULTILINE)}
+    return {word for word, told in helps.items() if re.search("^ +--book ", told, re.MULTILINE)}
 
 
 def words_of(word, options):
@@ -176,6 +186,8 @@ def no_paths(program, scratch):
 
 def main():
     words = sweep.words_of_a_sweep().parse_args()
+    missed = words_of_books(words.program) ^ OPTIONS.keys()
+    tally.check("each subcommand that takes a book is tried, and no other", " ".join(sorted(missed)))
     unusable(words.program, words.scratch).tell("words that can't be used")
     batches(words.program, words.scratch).tell("each byte as a batch, and batches of each length")
     paths(words.program, words.scratch).tell("books at paths of every kind")
@@ -184,3 +196,4 @@ def main():
 
 if __name__ == "__main__":
     main()
+    tally.end()

@@ -14,6 +14,7 @@ import os
 import sys
 from decimal import Context, Decimal
 
+import tally
 from beancount import loader
 from beancount.core import data, inventory
 from beancount.ops import validation
@@ -91,12 +92,13 @@ def main():
             found = difference(path + ".journal", wanted)
             reason = known.pop(case, None)
             if reason is None:
-                print(f"FAILED {case}: {found}" if found else f"ok {case}")
+                tally.check(case, found)
             else:
-                print(f"ok {case} differs: {reason}" if found else f"FAILED {case}: it no longer differs")
+                tally.check(f"{case} differs", "" if found else "it no longer does", reason)
     for case in known:
-        print(f"FAILED {case}: there is no such journal")
+        tally.check(case, "there is no such journal")
 
 
 if __name__ == "__main__":
     main()
+    tally.end()

@@ -2,8 +2,7 @@
 
     compare.py NAME BEFORE AFTER NEW
 
-BEFORE is the file as it was, AFTER as it is; NEW is a book that the same program made. It prints a line `ok NAME, ..` or
-`FAILED NAME, ..: ..` for each thing that is compared.
+BEFORE is the file as it was, AFTER as it is; NEW is a book that the same program made.
 """
 
 import os
@@ -14,6 +13,7 @@ sys.path.insert(0, os.path.join(os.path.dirname(os.path.abspath(__file__)), ".."
 sys.path.append(os.path.join(os.path.dirname(os.path.abspath(__file__)), "..", "lib"))
 
 import tables  # noqa: E402  (the folders are named above)
+import tally  # noqa: E402
 
 OF_EDITION_1 = tables.OF_EDITION_1
 KEY = ("account", "commodity", "cost_day", "cost_currency", "cost_number", "cost_label")
@@ -175,8 +175,9 @@ def fault_of_either(before, path, of_new):
 def main():
     name, before, after, new = sys.argv[1:]
     for asked, fault in answers(Before(before), after, schema_of(new)).items():
-        print(f"FAILED {name}, {asked}: {fault}" if fault else f"ok {name}, {asked}")
+        tally.check(f"{name}, {asked}", fault)
 
 
 if __name__ == "__main__":
     main()
+    tally.end()

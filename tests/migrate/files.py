@@ -3,12 +3,10 @@
     files.py PROGRAM SCRATCH
 
 What is refused is named, with status 4, and every table is as before; of what is no book of edition 1 or 2 the answer is that of
-`holdings` and of a post of nothing, and what they leave. It prints a line `ok NAME` or `FAILED NAME: ..` for each case.
+`holdings` and of a post of nothing, and what they leave.
 """
 
-import hashlib
 import os
-import shutil
 import subprocess
 import sys
 
@@ -18,6 +16,7 @@ import large
 import changed
 import notes
 import tables
+import tally
 
 NOT_A_BOOK, NEWER, DAMAGED = "fault S1 NotABook", "fault S2 NewerEdition", "fault S7 Damaged"
 MIGRATED = ("book migrated\n", "", 0)
@@ -26,15 +25,6 @@ MIGRATED = ("book migrated\n", "", 0)
 def call(program, word, book, *more):
     done = subprocess.run([program, word, "--book", book, *more], stdin=subprocess.DEVNULL, capture_output=True, timeout=600)
     return done.stdout.decode(), done.stderr.decode(), done.returncode
-
-
-def fresh(path):
-    for end in ("", "-wal", "-shm", "-journal"):
-        if os.path.isdir(path + end):
-            shutil.rmtree(path + end)
-        elif os.path.lexists(path + end):
-            os.remove(path + end)
-    return path
 
 
 def held(path):
@@ -47,16 +37,6 @@ def held(path):
     return tables.of_copy(path, read)
 
 
-def bytes_of(path):
-    """Digests of a file and of the commits in its log: one shorter than a page holds none. None where there is no file."""
-    found = []
-    for end, least in (("", 0), ("-wal", 4096)):
-        if os.path.isfile(path + end) and os.path.getsize(path + end) >= least:
-            with open(path + end, "rb") as file:
-                found.append((end, hashlib.sha256(file.read()).hexdigest()))
-    return found
-
-
 # ---- books of edition 1 of other forms
 
 
@@ -67,15 +47,14 @@ def empty(path):
 
 def logged(path):
     """A book whose rows stand in its log alone, as where the program that wrote them was killed."""
-    source = fresh(path + ".source")
+    source = tables.removed(path + ".source")
     with tables.connect(source) as db:
         db.execute("PRAGMA journal_mode = WAL")
         db.execute("PRAGMA wal_autocheckpoint = 0")
         with open(tables.OLDER, encoding="utf-8") as text:
             db.executescript(text.read())
-        for end in ("", "-wal"):
-            shutil.copyfile(source + end, path + end)
-    fresh(source)
+        tables.copied(source, path)
+    tables.removed(source)
 
 
 def rewritten(path):
@@ -95,7 +74,7 @@ FORMS = {
 
 
 def fault_of_form(program, path, make, of_new):
-    make(fresh(path))
+    make(tables.removed(path))
     before = compare.Before(path)
     if not before.rows["book"]:
         return "the case has no book"
@@ -104,9 +83,9 @@ def fault_of_form(program, path, make, of_new):
         return f"{got}"
     if fault := compare.fault_of(before, path, of_new):
         return fault
-    there = bytes_of(path)
+    there = tables.bytes_of(path)
     again = call(program, "migrate", path)
-    if again != MIGRATED or bytes_of(path) != there:
+    if again != MIGRATED or tables.bytes_of(path) != there:
         return f"again: {again}, or the file changed"
     journal, errors, status = call(program, "journal", path)
     wanted = "".join(line + "\n" for line in tables.of_copy(path, tables.journal))
@@ -175,7 +154,7 @@ def damages(db):
 
 
 def fault_of_refusal(program, path, statements, fault):
-    tables.older(fresh(path))
+    tables.older(tables.removed(path))
     changed.changed(path, statements)
     there = held(path)
     for _ in range(2):
@@ -245,10 +224,10 @@ OTHERS = {
 
 def left(program, path, make, word, *more):
     """The answer of a word on the file, without the file's path, and what is left there."""
-    make(fresh(path))
-    before = bytes_of(path)
+    make(tables.removed(path))
+    before = tables.bytes_of(path)
     output, errors, status = call(program, word, path, *more)
-    return (output, errors.replace(path, "F"), status), before, bytes_of(path), sorted(os.listdir(os.path.dirname(path)))
+    return (output, errors.replace(path, "F"), status), before, tables.bytes_of(path), sorted(os.listdir(os.path.dirname(path)))
 
 
 # Opening them makes empty databases of them.
@@ -278,20 +257,20 @@ def fault_of_other(program, folder, name, make, fault):
 def main():
     program, scratch = sys.argv[1:]
     path, new = (os.path.join(scratch, name) for name in ("files.book", "files-new.book"))
-    made = call(program, "init", fresh(new))
-    print("ok a new book" if made == ("book ready\n", "", 0) else f"FAILED a new book: {made}")
+    made = call(program, "init", tables.removed(new))
+    tally.check("a new book", "" if made == ("book ready\n", "", 0) else f"{made}")
     of_new = compare.schema_of(new)
     cases = [(name, fault_of_form, (path, make, of_new)) for name, make in FORMS.items()]
     cases += [(f"a book of edition 1 with a {name}", fault_of_refusal, (path, them, NOT_A_BOOK)) for name, them in TAKEN.items()]
-    tables.older(fresh(path))
+    tables.older(tables.removed(path))
     with tables.connect(path) as db:
         cases += [(f"a book of edition 1 with {name}", fault_of_refusal, (path, them, DAMAGED)) for name, them in damages(db)]
     for number, (name, (make, fault)) in enumerate(OTHERS.items()):
         cases.append((name, fault_of_other, (os.path.join(scratch, f"other-{number}"), name, make, fault)))
     for name, ask, words in cases:
-        fault = ask(program, *words)
-        print(f"FAILED {name}: {fault}" if fault else f"ok {name}", flush=True)
+        tally.check(name, ask(program, *words))
 
 
 if __name__ == "__main__":
     main()
+    tally.end()

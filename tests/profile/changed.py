@@ -4,7 +4,7 @@ rows come to what those of reader.py come to.
     changed.py PROGRAM [--every N]
 
 Compared is what `import --profile P --show` prints: days and postings, narrations apart. With --every N only each N-th change is tried.
-A changed profile has to be a fault where reader.py finds one, else the same rows. It ends with the line `N passed, M failed`.
+A changed profile has to be a fault where reader.py finds one, else the same rows.
 """
 
 import itertools
@@ -15,9 +15,10 @@ import sys
 import tempfile
 
 sys.path.insert(0, os.path.dirname(os.path.abspath(__file__)))
-import compare
+sys.path.append(os.path.join(os.path.dirname(os.path.abspath(__file__)), "..", "lib"))
 import faults
 import reader
+import tally
 
 LINES = [
     faults.BUY,
@@ -100,8 +101,7 @@ def main(words):
         raise SystemExit(__doc__)
     if reader.tomllib is None:
         print(f"skipped: {reader.WITHOUT_TOMLLIB}")
-        print("0 passed, 0 failed")
-        return 0
+        return
     every = int(words[2]) if words[1:2] == ["--every"] else 1
     count, bad = 0, []
     with tempfile.TemporaryDirectory() as folder:
@@ -111,12 +111,11 @@ def main(words):
             if want != got:
                 bad.append(f"{name}: {str(got)[:200]}, wanted {str(want)[:200]}")
     for problem in bad[:20]:
-        compare.check("changed", problem)
-    compare.failed += len(bad[20:])
-    compare.passed += count - len(bad)
-    print(f"{compare.passed} passed, {compare.failed} failed")
-    return 1 if bad else 0
+        tally.check("changed", problem)
+    tally.failed += len(bad[20:])
+    tally.passed += count - len(bad)
 
 
 if __name__ == "__main__":
-    sys.exit(main(sys.argv[1:]))
+    main(sys.argv[1:])
+    tally.end()

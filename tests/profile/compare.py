@@ -5,7 +5,7 @@
 Each made year is read, booked by a plain book (fifo.py) and compared with its truth; then its second file, of which the rows that are
 there already have to have the keys and the texts of before. Units, cash, dividends, taxes, fees, interest and rewards are compared to
 the last digit, costs and gains to the cent. Then come the cases of faults.py, and the examples in profiles/. With PROGRAM the texts are
-judged by the program, too. It ends with the line `N passed, M failed`.
+judged by the program, too.
 """
 
 import glob
@@ -15,27 +15,19 @@ import subprocess
 import sys
 from fractions import Fraction
 
-sys.path.insert(0, os.path.dirname(os.path.abspath(__file__)))
+HERE = os.path.dirname(os.path.abspath(__file__))
+sys.path.insert(0, HERE)
+sys.path.append(os.path.join(HERE, "..", "lib"))
 import faults
 import fifo
 import make
 import reader
+import tally
+from tally import check
 
-HERE = os.path.dirname(os.path.abspath(__file__))
 ROOT = os.path.dirname(os.path.dirname(HERE))
 CENT = Fraction(1, 200)
 LOOSE = ("lot", "gain")
-passed, failed = 0, 0
-
-
-def check(name, problem):
-    global passed, failed
-    if problem:
-        failed += 1
-        print(f"FAILED {name}: {problem}")
-    else:
-        passed += 1
-        print(f"ok {name}")
 
 
 def load(path):
@@ -168,8 +160,7 @@ def years():
 def main(words):
     if reader.tomllib is None:
         print(f"skipped: {reader.WITHOUT_TOMLLIB}")
-        print("0 passed, 0 failed")
-        return 0
+        return
     stale = [name for name, data in make.files() if load(f"{make.HERE}/{name}") != data]
     check("the made files are those of make.py", " ".join(stale))
     for name, folder in years():
@@ -178,9 +169,8 @@ def main(words):
             judged(words[0], name, *done)
     for name, problem in faults.cases():
         check(name, problem)
-    print(f"{passed} passed, {failed} failed")
-    return 1 if failed else 0
 
 
 if __name__ == "__main__":
-    sys.exit(main(sys.argv[1:]))
+    main(sys.argv[1:])
+    tally.end()

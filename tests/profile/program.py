@@ -4,8 +4,7 @@
 
 Each year goes into a book of its own: both files are imported by the profile, then again, which changes nothing. What is held and what
 was gained has to be the truth; the keys of the book are those of reader.py, as are the rows that are booked. Then come the cases of
-faults.py: where reader.py finds a fault, the program names the same row or the same entry of the profile, and keeps nothing. It
-ends with the line `N passed, M failed`.
+faults.py: where reader.py finds a fault, the program names the same row or the same entry of the profile, and keeps nothing.
 """
 
 import csv
@@ -23,6 +22,7 @@ import faults
 import fifo
 import make
 import reader
+import tally
 
 BATCH = "made"
 
@@ -158,8 +158,7 @@ def main(words):
         raise SystemExit(__doc__)
     if reader.tomllib is None:
         print(f"skipped: {reader.WITHOUT_TOMLLIB}")
-        print("0 passed, 0 failed")
-        return 0
+        return
     with tempfile.TemporaryDirectory() as above:
         os.mkdir(f"{above}/a")
         program = Program(words[0], f"{above}/a")
@@ -169,9 +168,8 @@ def main(words):
         if not words[1:]:
             for name, changes, lines, _ in faults.CASES:
                 case(program, name, changes, lines)
-    print(f"{compare.passed} passed, {compare.failed} failed")
-    return 1 if compare.failed else 0
 
 
 if __name__ == "__main__":
-    sys.exit(main(sys.argv[1:]))
+    main(sys.argv[1:])
+    tally.end()

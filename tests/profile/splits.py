@@ -3,7 +3,7 @@
     splits.py PROGRAM
 
 Each case begins with a new book in which one account has lots, and imports files of a few rows. What is wanted was worked out by hand
-from docs/FORMATS.md, 'Profiles'. It ends with the line `N passed, M failed`.
+from docs/FORMATS.md, 'Profiles'.
 """
 
 import os
@@ -12,7 +12,10 @@ import sys
 import tempfile
 
 sys.path.insert(0, os.path.dirname(os.path.abspath(__file__)))
+sys.path.append(os.path.join(os.path.dirname(os.path.abspath(__file__)), "..", "lib"))
 import faults
+import tally
+from tally import check
 
 SPLITS = """[[kind]]
 is = "split"
@@ -24,18 +27,6 @@ is = "split"
 when = { Kind = "Added" }"""
 OLD, NEW = faults.kind_more(SPLITS)
 PROFILE = faults.PROFILE.replace(OLD, NEW, 1)
-
-passed = failed = 0
-
-
-def check(name, problem):
-    global passed, failed
-    if problem:
-        failed += 1
-        print(f"FAILED {name}: {problem}", flush=True)
-    else:
-        passed += 1
-        print(f"ok {name}", flush=True)
 
 
 def file_of(rows):
@@ -190,9 +181,8 @@ def main(words):
     with tempfile.TemporaryDirectory() as folder:
         for cases in (by_method, crumbs, behind, refused, shown):
             cases(lambda method, text: Book(words[0], folder, method, text))
-    print(f"{passed} passed, {failed} failed")
-    return 1 if failed else 0
 
 
 if __name__ == "__main__":
-    sys.exit(main(sys.argv[1:]))
+    main(sys.argv[1:])
+    tally.end()

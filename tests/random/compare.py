@@ -3,21 +3,17 @@
     compare.py PROGRAM [--first SEED] [--count N] [--changed N] [--crowded METHOD ..]
 
 Each seed gives a ledger of commands, whose answer is the judge's, and so many changed texts of it, whose answer is that of
-the reader and the judge. It prints a line `ok NAME` or `FAILED NAME: ..` for each case. A case is the texts of a hundred
-seeds, a ledger of 10,000 lots, or something that has to occur at least some times: a refusal, a booking, a form or a fault of
-text. For a text whose answer is another one, its seed, the text and the two answers go to standard error; to repeat that seed
-alone: --first SEED --count 1 --crowded.
+the reader and the judge. A case is the texts of a hundred seeds, a ledger of 10,000 lots, or something that has to occur at
+least some times: a refusal, a booking, a form or a fault of text. For a text whose answer is another one, its seed, the text and
+the two answers go to standard error; to repeat that seed alone: --first SEED --count 1 --crowded.
 """
 
-import argparse
 import collections
-import concurrent.futures
 import functools
 import itertools
 import os
 import subprocess
 import sys
-from typing import NamedTuple
 
 sys.path.append(os.path.join(os.path.dirname(os.path.abspath(__file__)), "..", "lib"))
 
@@ -27,6 +23,7 @@ import model
 import mutate
 import notes
 import spell
+import tally
 import text as second
 
 A_CASE = 100  # seeds
@@ -224,13 +221,6 @@ def difference(program, text, answer):
     )
 
 
-class Compared(NamedTuple):
-    """What came of the texts of some seeds: those with another answer, with how it differs; and what occurred."""
-
-    differing: dict
-    census: collections.Counter
-
-
 def compare(program, drawing, changed):
     """The differences on the text of a drawing and on so many changed ones, and what occurs in them."""
     text = spell.Speller(drawing.rng).ledger([it.command for it in drawing.judged])
@@ -248,61 +238,27 @@ def compare(program, drawing, changed):
     return "".join(differences), census
 
 
-def compare_seeds(program, changed, seeds):
-    differing = {}
-    census = collections.Counter()
-    for seed in seeds:
-        found, occurring = compare(program, draw.small(seed), changed)
-        census += occurring
-        if found:
-            differing[seed] = found
-    return Compared(differing, census)
+def compare_small(program, changed, seed):
+    return compare(program, draw.small(seed), changed)
 
 
-def compare_crowded(program, seed, method):
-    found, census = compare(program, draw.crowded(seed, method), 0)
-    return Compared({seed: found} if found else {}, census)
-
-
-def in_cases(first, count):
-    """The seeds from the first one on, in parts of a case each."""
-    seeds = range(first, first + count)
-    return [seeds[at : at + A_CASE] for at in range(0, count, A_CASE)]
+def compare_crowded(program, method, seed):
+    return compare(program, draw.crowded(seed, method), 0)
 
 
 def main():
-    words = argparse.ArgumentParser()
-    words.add_argument("program")
-    words.add_argument("--first", type=int, default=1)
-    words.add_argument("--count", type=int, default=1800)
-    words.add_argument("--changed", type=int, default=1)
+    words = tally.words("program", first=1, count=1800, changed=1)
     words.add_argument("--crowded", nargs="*", default=["NONE", "FIFO"], choices=model.METHODS)
     words = words.parse_args()
-    cases = {
-        f"a ledger of 10,000 lots under {method}": functools.partial(compare_crowded, words.program, words.first, method)
-        for method in words.crowded
-    }
-    for seeds in in_cases(words.first, words.count):
-        name = f"the texts of the seeds {seeds[0]} to {seeds[-1]}"
-        cases[name] = functools.partial(compare_seeds, words.program, words.changed, seeds)
-    census = collections.Counter()
-    with concurrent.futures.ProcessPoolExecutor(os.cpu_count()) as processes:
-        for name, case in [(name, processes.submit(case)) for name, case in cases.items()]:
-            compared = case.result()
-            census += compared.census
-            for seed, found in compared.differing.items():
-                print(f"=== seed {seed}\n{found}", file=sys.stderr)
-            if compared.differing:
-                seeds = list(compared.differing)
-                print(f"FAILED {name}: seeds {' '.join(map(str, seeds[:10]))}, {len(seeds)} in all", flush=True)
-            else:
-                print(f"ok {name}", flush=True)
-    for kind in KINDS:
-        if census[kind] < AT_LEAST:
-            print(f"FAILED {kind}: it occurs {census[kind]} times")
-        else:
-            print(f"ok {kind}: {census[kind]} times")
+    cases = []
+    for method in words.crowded:
+        crowded = functools.partial(compare_crowded, words.program, method)
+        cases.append((f"a ledger of 10,000 lots under {method}", (tally.of_seeds, crowded, [words.first])))
+    small = functools.partial(compare_small, words.program, words.changed)
+    cases += tally.drawn("the texts of the seeds {} to {}", small, words, A_CASE)
+    tally.occurs(KINDS, tally.sweep(cases), AT_LEAST)
 
 
 if __name__ == "__main__":
     main()
+    tally.end()

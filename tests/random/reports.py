@@ -5,13 +5,12 @@
 The plain reports are written from docs/FORMATS.md and docs/RULES.md alone, over the entries of the plain judge: each looks over
 all entries of the book. Each ledger is posted to a new book, in two calls, of which the second finds in the file what the first one
 left; then its holdings, with and without days, its gains, whole and in ranges, and its journal are compared, byte for byte, and the
-opening number of each lot in the tables. It prints a line `ok NAME` or `FAILED NAME: ..` for the ledgers of a hundred seeds, and for
-each kind of row, which has to occur at least some times. A difference goes to standard error, with its seed.
+opening number of each lot in the tables. A case is the ledgers of a hundred seeds, or a kind of row, which has to occur at least some
+times. A difference goes to standard error, with its seed.
 """
 
-import argparse
 import collections
-import concurrent.futures
+import functools
 import os
 import random
 import subprocess
@@ -25,6 +24,7 @@ import model
 import notes
 import spell
 import tables
+import tally
 from model import ONE, day_text, key_order, money_text, number_text
 
 A_CASE = 100  # seeds
@@ -276,7 +276,7 @@ def asked(rng, book):
 
 
 def compare(program, scratch, seed):
-    """How the reports of a drawn ledger differ, or nothing; and what occurs in them."""
+    """How the reports of a drawn ledger differ, or nothing; and what occurs in them, each kind once."""
     drawing = draw.small(seed)
     rng, seen = random.Random(seed), collections.Counter()
     quote_more(rng, drawing)
@@ -300,52 +300,22 @@ def compare(program, scratch, seed):
         cases.append((words, lines, call(program, [words[0], "--book", book, *words[1:]])))
     numbers = "".join(line + "\n" for line in tables.openings(book))
     cases.append((["the table opening"], openings(drawing.book, seen), (numbers, 0, "")))
-    for name in (book, book + "-wal"):
-        if os.path.exists(name):
-            os.remove(name)
+    tables.removed(book)
     found = ""
     for words, lines, got in cases:
         report = "".join(line + "\n" for line in lines)
         if got != (report, 0, ""):
             found += f"--- {' '.join(words)}, wanted\n{report}--- got, status {got[1]}\n{got[0]}{got[2]}"
-    return found and text.decode() + found, seen
-
-
-def compare_seeds(program, scratch, seeds):
-    differing, census = {}, collections.Counter()
-    for seed in seeds:
-        found, seen = compare(program, scratch, seed)
-        census.update({kind: 1 for kind in seen if seen[kind]})
-        if found:
-            differing[seed] = found
-    return differing, census
+    return found and text.decode() + found, collections.Counter(kind for kind in seen if seen[kind])
 
 
 def main():
-    words = argparse.ArgumentParser()
-    words.add_argument("program")
-    words.add_argument("scratch")
-    words.add_argument("--first", type=int, default=1)
-    words.add_argument("--count", type=int, default=200)
-    words = words.parse_args()
-    seeds = range(words.first, words.first + words.count)
-    census = collections.Counter()
-    with concurrent.futures.ProcessPoolExecutor(os.cpu_count()) as processes:
-        parts = [seeds[at : at + A_CASE] for at in range(0, words.count, A_CASE)]
-        for part, case in [(part, processes.submit(compare_seeds, words.program, words.scratch, part)) for part in parts]:
-            differing, found = case.result()
-            census += found
-            name = f"the reports of the ledgers {part[0]} to {part[-1]}"
-            for seed, difference in differing.items():
-                print(f"=== seed {seed}\n{difference}", file=sys.stderr)
-            if differing:
-                print(f"FAILED {name}: seeds {' '.join(map(str, list(differing)[:10]))}, {len(differing)} in all", flush=True)
-            else:
-                print(f"ok {name}", flush=True)
-    for kind in KINDS:
-        said = f"{kind}: in {census[kind]} ledgers"
-        print(f"ok {said}" if census[kind] >= AT_LEAST else f"FAILED {said}")
+    words = tally.words("program", "scratch", first=1, count=200).parse_args()
+    of_seed = functools.partial(compare, words.program, words.scratch)
+    census = tally.sweep(tally.drawn("the reports of the ledgers {} to {}", of_seed, words, A_CASE))
+    tally.occurs(KINDS, census, AT_LEAST, "{0}: in {1} ledgers")
 
 
 if __name__ == "__main__":
     main()
+    tally.end()

@@ -6,13 +6,12 @@ Each seed gives a ledger with its options. It is judged by a call without a subc
 near it is. Both batches are sent again with the options, some commands changed, and the first once more without them; then the
 reports are compared, and the journal is posted to another new book without the options, which comes to the same tables. Every
 answer is compared, byte for byte, with its status. Of each command it is checked that what is accepted without the options is so
-with them, that a completion is its own, and that it balances. It prints a line `ok NAME` or `FAILED NAME: ..` for the ledgers of twenty
-seeds, and for each kind of completion, which has to occur at least some times. A difference goes to standard error, with its seed.
+with them, that a completion is its own, and that it balances. A case is the ledgers of twenty seeds, or a kind of completion, which
+has to occur at least some times. A difference goes to standard error, with its seed.
 """
 
-import argparse
 import collections
-import concurrent.futures
+import functools
 import os
 import sys
 
@@ -24,6 +23,7 @@ import model
 import reports
 import spell
 import tables
+import tally
 from model import ONE, Asked, number_text
 
 A_CASE = 20  # seeds
@@ -264,49 +264,19 @@ def compare(program, scratch, seed):
     cases.call(["post", "--book", other, "--batch", "j"], [f"{number} accepted" for number in numbers], journal.encode())
     if without_keys(tables.contents(book)) != without_keys(tables.contents(other)):
         cases.found += "--- the journal comes to other tables\n"
-    for name in (book, other):
-        for end in ("", "-wal"):
-            if os.path.exists(name + end):
-                os.remove(name + end)
+    tables.removed(book)
+    tables.removed(other)
     return cases.found and f"{' '.join(options)}\n{cases.found}", seen
 
 
-def compare_seeds(program, scratch, seeds):
-    differing, census = {}, collections.Counter()
-    for seed in seeds:
-        found, seen = compare(program, scratch, seed)
-        census += seen
-        if found:
-            differing[seed] = found
-    return differing, census
-
-
 def main():
-    words = argparse.ArgumentParser()
-    words.add_argument("program")
-    words.add_argument("scratch")
-    words.add_argument("--first", type=int, default=1)
-    words.add_argument("--count", type=int, default=COUNT)
-    words = words.parse_args()
-    seeds = range(words.first, words.first + words.count)
-    census = collections.Counter()
-    with concurrent.futures.ProcessPoolExecutor(os.cpu_count()) as processes:
-        parts = [seeds[at : at + A_CASE] for at in range(0, words.count, A_CASE)]
-        for part, case in [(part, processes.submit(compare_seeds, words.program, words.scratch, part)) for part in parts]:
-            differing, found = case.result()
-            census += found
-            name = f"the ledgers with crumbs {part[0]} to {part[-1]}"
-            for seed, difference in differing.items():
-                print(f"=== seed {seed}\n{difference}", file=sys.stderr)
-            if differing:
-                print(f"FAILED {name}: seeds {' '.join(map(str, list(differing)[:10]))}, {len(differing)} in all", flush=True)
-            else:
-                print(f"ok {name}", flush=True)
+    words = tally.words("program", "scratch", first=1, count=COUNT).parse_args()
+    of_seed = functools.partial(compare, words.program, words.scratch)
+    census = tally.sweep(tally.drawn("the ledgers with crumbs {} to {}", of_seed, words, A_CASE))
     if words.count >= COUNT:
-        for kind in KINDS:
-            said = f"{kind}: {census[kind]} times"
-            print(f"ok {said}" if census[kind] >= AT_LEAST else f"FAILED {said}")
+        tally.occurs(KINDS, census, AT_LEAST)
 
 
 if __name__ == "__main__":
     main()
+    tally.end()

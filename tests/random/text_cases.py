@@ -1,5 +1,5 @@
 """Tries the second reader on what docs/FORMATS.md and docs/RULES.md say, on drawn ledgers, and with the plain judge on the texts
-of tests/cases/ and examples/, whose stored answers it has to give. Prints a line for each case.
+of tests/cases/ and examples/, whose stored answers it has to give.
 """
 
 import pathlib
@@ -7,6 +7,7 @@ import pathlib
 import compare
 import draw
 import spell
+import tally
 import text
 
 ROOT = pathlib.Path(__file__).resolve().parents[2]
@@ -123,28 +124,25 @@ def other_answers(folder):
             yield path.stem
 
 
-def say(name, good, why):
-    print(f"ok {name}" if good else f"FAILED {name}: {why}")
-
-
 def main():
     for name, (data, wanted) in CASES.items():
         got = outcome(data)
-        say("reader: " + name, got == wanted, f"{got} instead of {wanted}")
+        tally.check("reader: " + name, "" if got == wanted else f"{got} instead of {wanted}")
     for number, wanted in NUMBERS.items():
         got = units_of(number)
-        say(f"reader: the number '{number.decode()}'", got == wanted, f"{got} instead of {wanted}")
+        tally.check(f"reader: the number '{number.decode()}'", "" if got == wanted else f"{got} instead of {wanted}")
     wrong = []
     for seed in range(1, 201):
         drawing = draw.small(seed)
         commands = [it.command for it in drawing.judged]
         if text.read(spell.Speller(drawing.rng).ledger(commands)) != commands:
             wrong.append(seed)
-    say("reader: drawn ledgers read back", not wrong, f"seeds {wrong[:10]}")
+    tally.check("reader: drawn ledgers read back", f"seeds {wrong[:10]}" if wrong else "")
     for folder in folders():
         wrong = list(other_answers(folder))
-        say(f"reader and judge: the answers of {folder.relative_to(ROOT)}", not wrong, " ".join(wrong[:10]))
+        tally.check(f"reader and judge: the answers of {folder.relative_to(ROOT)}", " ".join(wrong[:10]))
 
 
 if __name__ == "__main__":
     main()
+    tally.end()

@@ -4,14 +4,13 @@
 
 Ledgers drawn from seeds: of edition 2, of edition 1 that `migrate` took over with commands behind it, and with crumbs. The books of
 FOLDER, which a program of edition 1 wrote. Rows of a broker whose references have every byte, blanks and semicolons. Each is restored
-twice, and what is restored has the schema of a new book, the dump of the first and its digest. A line `ok NAME` or `FAILED NAME: ..`
-for each kind.
+twice, and what is restored has the schema of a new book, the dump of the first and its digest.
 """
 
-import argparse
 import collections
 import concurrent.futures
 import csv
+import functools
 import gzip
 import io
 import os
@@ -27,6 +26,7 @@ import large
 import model
 import spell
 import tables
+import tally
 
 A_CASE = 25  # seeds
 AT_LEAST = 3
@@ -47,7 +47,7 @@ def fault_of(program, book, *options):
     new = book + ".new"
     sure = (["book restored"], 0, b"")
     for again in (0, 1):
-        if (got := ground.restore(program, ground.removed(new), text, *options)) != sure:
+        if (got := ground.restore(program, tables.removed(new), text, *options)) != sure:
             return f"{'again: ' * again}{got[0][-2:]}, status {got[1]}, {got[2][-200:]}"
         if fault := ground.difference(book, new):
             return "again: " * again + fault
@@ -55,7 +55,7 @@ def fault_of(program, book, *options):
         return "another dump"
     if (found := ground.digest(program, new)) != digest:
         return f"the digest {found!r} instead of {digest!r}"
-    ground.removed(new)
+    tables.removed(new)
     return ""
 
 
@@ -93,7 +93,7 @@ def migrated(program, path, seed, seen):
             except model.Refused:
                 pass
     seen["a tie that edition 1 decided otherwise"] += book.entries != other.entries
-    rows.write(ground.removed(path), book)
+    rows.write(tables.removed(path), book)
     ground.sure(program, ["migrate", "--book", path])
     text = spell.Speller(drawing.rng).ledger(commands)
     before = len(ground.contents(path)["entry"])
@@ -101,16 +101,13 @@ def migrated(program, path, seed, seen):
     seen["a command of edition 2 behind a migration"] += 0 < before < len(ground.contents(path)["entry"])
 
 
-def of_seeds(program, scratch, make, seeds):
-    """The faults of the books of these seeds, and what occurred in them."""
-    seen, faults = collections.Counter(), {}
-    for seed in seeds:
-        path = os.path.join(scratch, f"{make.__name__}-{seed}.book")
-        make(program, path, seed, seen)
-        if fault := fault_of(program, path, *["--edited"] * (seed % 5 == 0)):
-            faults[seed] = fault
-        ground.removed(path)
-    return faults, seen
+def of_seed(program, scratch, make, seed):
+    """What is wrong with the book of a seed, or nothing, and what occurred in it."""
+    path, seen = os.path.join(scratch, f"{make.__name__}-{seed}.book"), collections.Counter()
+    make(program, path, seed, seen)
+    fault = fault_of(program, path, *["--edited"] * (seed % 5 == 0))
+    tables.removed(path)
+    return fault, seen
 
 
 def broker(program, path):
@@ -129,7 +126,7 @@ def broker(program, path):
 
 def stored(program, path, folder):
     """Of a book that a program of edition 1 wrote, migrated, and then with later sales."""
-    with gzip.open(os.path.join(folder, "book.gz")) as packed, open(ground.removed(path), "wb") as file:
+    with gzip.open(os.path.join(folder, "book.gz")) as packed, open(tables.removed(path), "wb") as file:
         file.write(packed.read())
     ground.sure(program, ["migrate", "--book", path])
     if fault := fault_of(program, path):
@@ -140,13 +137,13 @@ def stored(program, path, folder):
 
 
 def large_book(program, path):
-    large.make(ground.removed(path), 1203)
+    large.make(tables.removed(path), 1203)
     ground.sure(program, ["migrate", "--book", path])
     return fault_of(program, path)
 
 
 def older(program, path):
-    tables.older(ground.removed(path))
+    tables.older(tables.removed(path))
     ground.sure(program, ["migrate", "--book", path])
     return fault_of(program, path)
 
@@ -157,11 +154,7 @@ def empty(program, path):
 
 
 def main():
-    words = argparse.ArgumentParser()
-    words.add_argument("program")
-    words.add_argument("scratch")
-    words.add_argument("--first", type=int, default=1)
-    words.add_argument("--count", type=int, default=50)
+    words = tally.words("program", "scratch", first=1, count=50)
     words.add_argument("--migrated")
     words = words.parse_args()
     single = [("an empty book", empty, ()), ("a book whose ties edition 1 decided", older, ()), ("a migrated book of 1,203 entries", large_book, ())]
@@ -169,22 +162,17 @@ def main():
     for name in sorted(os.listdir(words.migrated)) if words.migrated else ():
         if os.path.exists(os.path.join(words.migrated, name, "book.gz")):
             single.append((f"the migrated book {name}, and with later sales", stored, (os.path.join(words.migrated, name),)))
-    census = collections.Counter()
-    seeds = range(words.first, words.first + words.count)
     with concurrent.futures.ProcessPoolExecutor(os.cpu_count()) as pool:
         jobs = [(name, pool.submit(make, words.program, os.path.join(words.scratch, f"single-{at}.book"), *more)) for at, (name, make, more) in enumerate(single)]
-        parts = [(make, seeds[at : at + A_CASE]) for make in (drawn, migrated, crumbs) for at in range(0, words.count, A_CASE)]
-        parts = [(make, part, pool.submit(of_seeds, words.program, words.scratch, make, part)) for make, part in parts]
         for name, job in jobs:
-            ground.tell(name, job.result())
-        for make, part, job in parts:
-            faults, seen = job.result()
-            census += seen
-            first = "".join(f"seed {seed}: {fault}; {len(faults)} in all" for seed, fault in list(faults.items())[:1])
-            ground.tell(f"the {make.__name__} books of the seeds {part[0]} to {part[-1]}", first)
-    for kind in KINDS:
-        ground.tell(f"{kind}: in {census[kind]} books", "" if census[kind] >= AT_LEAST else "too few")
+            tally.check(name, job.result())
+    cases = []
+    for make in (drawn, migrated, crumbs):
+        compare = functools.partial(of_seed, words.program, words.scratch, make)
+        cases += tally.drawn(f"the {make.__name__} books of the seeds {{}} to {{}}", compare, words, A_CASE)
+    tally.occurs(KINDS, tally.sweep(cases), AT_LEAST, "{0}: in {1} books")
 
 
 if __name__ == "__main__":
     main()
+    tally.end()

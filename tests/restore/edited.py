@@ -3,13 +3,12 @@ row of each table that the plain book has.
 
     edited.py PROGRAM SCRATCH [--first SEED] [--count N]
 
-The dumps are those of ledgers drawn from seeds, of edition 2, or of edition 1 with commands behind their migration. A line `ok NAME` or
-`FAILED NAME: ..` for the texts of 25 seeds, and for each kind of answer, which has to occur at least some times.
+The dumps are those of ledgers drawn from seeds, of edition 2, or of edition 1 with commands behind their migration. A case is the texts
+of 25 seeds, or a kind of answer, which has to occur at least some times.
 """
 
-import argparse
 import collections
-import concurrent.futures
+import functools
 import hashlib
 import os
 import random
@@ -22,6 +21,8 @@ import plain
 import rows
 
 import mutate
+import tables
+import tally
 
 A_CASE = 25  # seeds
 EDITS = 4  # texts of a seed
@@ -171,7 +172,7 @@ def fault_of(program, path, rng, original, first, seen):
     note(seen, answer, lines, without, data, is_dry)
     options = [word for it in without for word in ("--" + it.option, it.value)]
     options += ["--edited"] * is_edited + ["--keep-going"] * keeps_going + ["--dry-run"] * is_dry + ["--compare", first] * compares
-    got = ground.restore(program, ground.removed(path), data, *options)
+    got = ground.restore(program, tables.removed(path), data, *options)
     wanted = [*answer.lines, *lines], 4 if lines and lines[-1] == "fault P1 Range" else answer.status
     words = " ".join(options)
     if got[:2] != wanted or ground.notes.without(got[2]):
@@ -186,41 +187,25 @@ def fault_of(program, path, rng, original, first, seen):
     return "" if ground.dump(program, path) == plain.dump(answer.book) else f"with {words}: another dump than that of the plain book"
 
 
-def of_seeds(program, scratch, seeds):
-    """The faults of the texts of these seeds, and what occurred in them."""
-    seen, faults = collections.Counter(), {}
-    for seed in seeds:
-        rng = random.Random(seed)
-        first, path = (os.path.join(scratch, f"{name}-{seed}.book") for name in ("first", "edited"))
-        (books.migrated if seed % 2 else books.drawn)(program, first, seed, collections.Counter())
-        original = ground.dump(program, first)
-        for _ in range(EDITS):
-            if fault := fault_of(program, path, rng, original, first, seen):
-                faults.setdefault(seed, fault)
-        ground.removed(first)
-        ground.removed(path)
-    return faults, seen
+def of_seed(program, scratch, seed):
+    """What is wrong with the texts of a seed, or nothing, and what occurred in them."""
+    rng, seen = random.Random(seed), collections.Counter()
+    first, path = (os.path.join(scratch, f"{name}-{seed}.book") for name in ("first", "edited"))
+    (books.migrated if seed % 2 else books.drawn)(program, first, seed, collections.Counter())
+    original = ground.dump(program, first)
+    faults = [fault_of(program, path, rng, original, first, seen) for _ in range(EDITS)]
+    tables.removed(first)
+    tables.removed(path)
+    return "\n".join(filter(None, faults)), seen
 
 
 def main():
-    words = argparse.ArgumentParser()
-    words.add_argument("program")
-    words.add_argument("scratch")
-    words.add_argument("--first", type=int, default=1)
-    words.add_argument("--count", type=int, default=100)
-    words = words.parse_args()
-    census = collections.Counter()
-    seeds = range(words.first, words.first + words.count)
-    with concurrent.futures.ProcessPoolExecutor(os.cpu_count()) as pool:
-        parts = [seeds[at : at + A_CASE] for at in range(0, words.count, A_CASE)]
-        for part, job in [(part, pool.submit(of_seeds, words.program, words.scratch, part)) for part in parts]:
-            faults, seen = job.result()
-            census += seen
-            first = "".join(f"seed {seed}, {fault}; {len(faults)} in all" for seed, fault in list(faults.items())[:1])
-            ground.tell(f"the edited dumps of the seeds {part[0]} to {part[-1]}", first)
-    for kind in KINDS:
-        ground.tell(f"{kind}: {census[kind]} times", "" if census[kind] >= AT_LEAST else "too few")
+    words = tally.words("program", "scratch", first=1, count=100).parse_args()
+    compare = functools.partial(of_seed, words.program, words.scratch)
+    census = tally.sweep(tally.drawn("the edited dumps of the seeds {} to {}", compare, words, A_CASE))
+    tally.occurs(KINDS, census, AT_LEAST)
 
 
 if __name__ == "__main__":
     main()
+    tally.end()

@@ -1,7 +1,6 @@
 """What the scripts of this folder share: calls of the program, files, and what is left in them."""
 
 import os
-import shutil
 import subprocess
 import sys
 
@@ -13,7 +12,6 @@ import notes  # noqa: E402  (the folders are named above)
 import tables  # noqa: E402
 
 RESTORED = "book restored"
-ENDS = ("", "-wal", "-shm", "-journal")
 WORDS = ("holdings", "gains", "journal", "dump", "verify", "migrate", "post", "import")
 ACCOUNTS = "--invest Assets:Broker --cash Assets:Cash --fees Expenses:Fees --gains Income:Gains".split()
 NEEDED = {"post": ["--batch", "x"], "import": ["--batch", "x", *ACCOUNTS]}
@@ -34,16 +32,9 @@ def sure(program, words, text=b""):
     return output
 
 
-def removed(path):
-    for end in ENDS:
-        if os.path.lexists(path + end):
-            os.remove(path + end)
-    return path
-
-
 def made(program, path, text, batch="a", options=()):
     """A new book to which a text is posted; what it refuses isn't looked at."""
-    sure(program, ["init", "--book", removed(path)])
+    sure(program, ["init", "--book", tables.removed(path)])
     sure(program, ["post", "--quiet", "--book", path, "--batch", batch, *options], text)
     return path
 
@@ -75,9 +66,9 @@ def digest(program, path):
     return rest
 
 
-def restore(program, path, text, *options, preexec=None):
+def restore(program, path, text, *options):
     """Lines, status and messages of restoring a text."""
-    output, status, messages = call(program, ["restore", "--book", path, *options], text, preexec_fn=preexec)
+    output, status, messages = call(program, ["restore", "--book", path, *options], text)
     return output.decode().split("\n")[:-1], status, messages
 
 
@@ -113,26 +104,13 @@ def difference(one, other):
     return "" if schema(one) == schema(other) else "another schema"
 
 
-def copied(path, copy):
-    """A copy of a file and of what lies beside it."""
-    removed(copy)
-    for end in ENDS:
-        if os.path.exists(path + end):
-            shutil.copyfile(path + end, copy + end)
-    return copy
-
-
 def fault_of_unfinished(program, path):
     """What is wrong where the file at this path has to be none that another word takes, or nothing. Each word is tried on a copy."""
     for word in WORDS:
-        copy = copied(path, path + ".asked")
+        copy = tables.copied(path, path + ".asked", tables.ENDS)
         text = HEADER if word == "import" else b""
         output, status, messages = call(program, [word, "--book", copy, *NEEDED.get(word, [])], text)
-        removed(copy)
+        tables.removed(copy)
         if (output, status) != (b"fault S1 NotABook\n", 4) or notes.without(messages):
             return f"{word}: status {status}, {output[-80:]}, {messages[-80:]}"
     return ""
-
-
-def tell(name, fault):
-    print(f"FAILED {name}: {fault}" if fault else f"ok {name}", flush=True)

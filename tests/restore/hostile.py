@@ -5,11 +5,9 @@ at each byte, of which each byte is changed, with CRLF, without the last line en
 
 None is a dump, so without `--edited` none makes a book or tables: the answer is a fault with status 3, that of the plain restorer. With
 `--edited` the answer, the status and the tables are those of the plain restorer, too. Each byte gets some of the other 255, drawn from a
-fixed seed, or with --whole each; of a long sweep each fifth text is edited. A line `ok NAME` or `FAILED NAME: ..` for each sweep, with its
-counts.
+fixed seed, or with --whole each; of a long sweep each fifth text is edited. A case is a sweep, with its counts.
 """
 
-import argparse
 import collections
 import concurrent.futures
 import os
@@ -19,6 +17,9 @@ import sys
 import ground
 import plain
 import rows
+
+import tables
+import tally
 
 LEDGER = b"""\
 2020-01-01 open Assets:Broker "FIFO"
@@ -63,7 +64,7 @@ def texts(data, whole):
 def fault_of(program, path, text, is_edited):
     """What is wrong with the answer to one text, or nothing; and what the answer is."""
     answer = plain.restored(text, is_edited=is_edited)
-    got = ground.restore(program, ground.removed(path), text, *["--edited"] * is_edited)
+    got = ground.restore(program, tables.removed(path), text, *["--edited"] * is_edited)
     said = (got[0] or [""])[-1]
     if ground.notes.without(got[2]) or got[:2] != (answer.lines, answer.status):
         wanted = answer.lines[-3:], answer.status
@@ -90,7 +91,7 @@ def of_part(program, path, cases):
         seen[kind_of(said)] += 1
         if fault:
             faults.append(f"{fault}: {text[:200]!r}")
-    ground.removed(path)
+    tables.removed(path)
     return seen, faults
 
 
@@ -98,16 +99,14 @@ def dumps(program, scratch):
     """The dump of a book, and that of one with a migration, which has commands of both editions."""
     path = ground.made(program, os.path.join(scratch, "first.book"), LEDGER)
     yield "a dump", ground.dump(program, path)
-    ground.tables.older(ground.removed(path))
+    tables.older(tables.removed(path))
     ground.sure(program, ["migrate", "--book", path])
     ground.sure(program, ["post", "--book", path, "--batch", "later"], OLDER)
     yield "a migrated dump", ground.dump(program, path)
 
 
 def main():
-    words = argparse.ArgumentParser()
-    words.add_argument("program")
-    words.add_argument("scratch")
+    words = tally.words("program", "scratch")
     words.add_argument("--whole", action="store_true")
     words = words.parse_args()
     count = os.cpu_count()
@@ -124,8 +123,9 @@ def main():
                     seen += found
                     faults += wrong
                 said = ", ".join(f"{times} {what}" for what, times in sorted(seen.items()))
-                ground.tell(f"{name}, {sweep}: {len(cases)} texts, {said}", f"{len(faults)} differ, first {faults[0]}" if faults else "")
+                tally.check(f"{name}, {sweep}: {len(cases)} texts, {said}", f"{len(faults)} differ, first {faults[0]}" if faults else "")
 
 
 if __name__ == "__main__":
     main()
+    tally.end()

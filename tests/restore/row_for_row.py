@@ -2,11 +2,9 @@
 
     row_for_row.py PROGRAM SCRATCH [--entries N]
 
-The answers have to come within some minutes, and in at most 100 MB of memory for 100,000 entries. A line `ok NAME` or `FAILED NAME: ..` for
-each book.
+The answers have to come within some minutes, and in at most 100 MB of memory for 100,000 entries.
 """
 
-import argparse
 import os
 import subprocess
 import sys
@@ -15,6 +13,8 @@ import time
 import ground
 
 import large
+import tables
+import tally
 
 MOST_SECONDS = 300  # on a machine with much other work; bench/restore.sh has the time
 MOST_KIB = 100_000  # for 100,000 entries
@@ -32,7 +32,7 @@ sys.exit(status)
 def measured(program, path, dump):
     """What a call of `restore` answers, its seconds, and its most memory in KiB."""
     begun = time.monotonic()
-    call = [sys.executable, "-c", RUN, program, "restore", "--quiet", "--book", ground.removed(path)]
+    call = [sys.executable, "-c", RUN, program, "restore", "--quiet", "--book", tables.removed(path)]
     with open(dump, "rb") as text:
         ended = subprocess.run(call, stdin=text, capture_output=True, check=False)
     return (ended.stdout, ended.returncode), time.monotonic() - begun, int(ended.stderr)
@@ -63,21 +63,18 @@ def posted(program, path, entries):
 
 
 def migrated(program, path, entries):
-    large.make(ground.removed(path), entries)
+    large.make(tables.removed(path), entries)
     ground.sure(program, ["migrate", "--book", path])
 
 
 def main():
-    words = argparse.ArgumentParser()
-    words.add_argument("program")
-    words.add_argument("scratch")
-    words.add_argument("--entries", type=int, default=100_000)
-    words = words.parse_args()
+    words = tally.words("program", "scratch", entries=100_000).parse_args()
     first = os.path.join(words.scratch, "first.book")
     for name, make in (("a book", posted), ("a migrated book", migrated)):
         make(words.program, first, words.entries)
-        ground.tell(f"{name} of {words.entries:,} entries, row for row", fault_of(words.program, first, words.scratch, words.entries))
+        tally.check(f"{name} of {words.entries:,} entries, row for row", fault_of(words.program, first, words.scratch, words.entries))
 
 
 if __name__ == "__main__":
     main()
+    tally.end()

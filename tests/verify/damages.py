@@ -4,11 +4,10 @@
 
 Of each table a value is changed, a row is taken away and a row is added. What no single row can show is S7 then, and standard error
 names the first place where it shows. Where the changed tables are those of another book, that one is verified. The file keeps what it
-was changed to. It prints a line `ok NAME` or `FAILED NAME: ..` for each case.
+was changed to.
 """
 
 import os
-import shutil
 import sys
 
 HERE = os.path.dirname(os.path.abspath(__file__))
@@ -17,6 +16,7 @@ for folder in ("book", "lib"):
 
 import changed  # noqa: E402  (the folders are named above)
 import tables  # noqa: E402
+import tally  # noqa: E402
 
 NO_ENTRY = "the row isn't the canonical text of a command that is accepted there, under a key of its own"
 NO_ROW = "of an account, its currencies, a commodity, a price or a latest day at cost"
@@ -133,18 +133,16 @@ def main():
     wanted = {statement: ("fault S7 Damaged\n", place, 4) for statement, place in DAMAGES.items()}
     wanted |= {statement: ("book verified\n", "", 0) for statement in OTHER_BOOKS}
     for statement, (output, place, status) in wanted.items():
-        for end in ("", "-wal", "-shm"):
-            if os.path.exists(book + end):
-                os.remove(book + end)
-        shutil.copyfile(first, book)
+        tables.copied(first, book)
         answer, is_changed = answer_of(program, book, statement)
         said = answer[1].splitlines()[1:] if place else answer[1].splitlines()
         is_told = (answer[0], said, answer[2]) == (output, [f"lotbook: {book}: {place}"] * bool(place), status)
         fault = "" if is_told else f"{answer[0]!r}, {said}, status {answer[2]}"
         if is_changed:
             fault = fault or "the file holds something else"
-        print(f"FAILED {statement}: {fault}" if fault else f"ok {statement}", flush=True)
+        tally.check(statement, fault)
 
 
 if __name__ == "__main__":
     main()
+    tally.end()

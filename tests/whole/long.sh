@@ -3,8 +3,8 @@
 # reports beside plain ones, and stops at random moments. And each command of each stored case in a batch of its own.
 #
 #   tests/whole/long.sh [TIMES]    so many times 2,000 ledgers and the like; 10 where it is absent
-if [[ -d /dev/shm && -w /dev/shm ]]; then export TMPDIR=/dev/shm; fi
 source "$(dirname "$(readlink -f "${BASH_SOURCE[0]}")")/../lib/cases.sh"
+in_memory
 need_program
 
 times=${1:-10}

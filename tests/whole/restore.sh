@@ -3,8 +3,8 @@
 # first table by table; each of the 255 other values of each byte of two dumps; books and edited dumps of other seeds.
 #
 #   tests/whole/restore.sh [TIMES]    so many times 400 books of each kind and 400 edited dumps; 5 where it is absent
-if [[ -d /dev/shm && -w /dev/shm ]]; then export TMPDIR=/dev/shm; fi
 source "$(dirname "$(readlink -f "${BASH_SOURCE[0]}")")/../lib/cases.sh"
+in_memory
 need_program
 
 times=${1:-5}
