@@ -1,4 +1,4 @@
-"""Tells of each crate whether each line of its contracts fits into 100 columns.
+"""Tells of each crate whether the lines of its contracts fit into 100 columns: those that begin a clause, an arrow or a bracket.
 
     width.py
 """
