@@ -33,7 +33,8 @@ pub(crate) fn with_lot(
     opening: u64,
 ) -> Option<ByNumber>
     ensures { IfSome result (λ new. (at : Place) → get place_cmp new at
-        ≡ cond (is_eq (place_cmp (place key.now) at)) (kept units opening) (get place_cmp index at)) }
+        ≡ cond (is_eq (place_cmp (place key.now) at)) (kept units opening)
+        (get place_cmp index at)) }
 {
     let at = (key.number, key.copy().ok()?);
     if units.mantissa() == 0 {

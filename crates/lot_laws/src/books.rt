@@ -140,7 +140,8 @@ pub fn what_was_bought_into_a_lot_is_sold_or_left()
     ensures { (migration : Migration) (entries : List Entry) (booked : List Booked)
         (account commodity : List ℕ) (lot : LotKey) → BooksEntries migration [] entries booked
         → units_at (inventory_of (legs_of entries) account) (commodity, Some lot)
-        ≡ bought_into booked (lot_at account commodity lot) +ℤ sold_of booked (lot_at account commodity lot) }
+        ≡ bought_into booked (lot_at account commodity lot)
+        +ℤ sold_of booked (lot_at account commodity lot) }
 {}
 
 /// In every book nothing is sold of a lot of an account whose method is NONE. What is held of the lot is what was bought; a

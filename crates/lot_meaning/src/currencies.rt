@@ -30,7 +30,8 @@ impl<'w, 'a> Model for CurrencyParts<'w, 'a> {
 
     ghost view = { λ p. map seen_text p.words.now };
 
-    ghost invariant = { λ p. IsTrue (list_all (λ word. is_commodity word.now) p.words.now) × (length p.words.now ≤ most_currencies) };
+    ghost invariant = { λ p. IsTrue (list_all (λ word. is_commodity word.now) p.words.now)
+        × (length p.words.now ≤ most_currencies) };
 }
 
 impl<'w, 'a> CurrencyParts<'w, 'a> {

@@ -82,7 +82,8 @@ impl<'a, G: Grammar> Model for NamePart<'a, G> {
 
     ghost view = { λ p. p.text.now };
 
-    ghost invariant = { λ p. IsTrue (G.is_name p.text.now) × IfSome p.known (λ name. name ≡ p.text.now) };
+    ghost invariant = { λ p. IsTrue (G.is_name p.text.now)
+        × IfSome p.known (λ name. name ≡ p.text.now) };
 }
 
 impl<'a, G: PartGrammar> NamePart<'a, G> {

@@ -26,7 +26,11 @@ impl<R: PagedRow> Model for Cursor<R> {
 
     ghost Value = { Place };
 
-    ghost view = { λ c. record { width = R.width; ahead = drop c.at c.page.items; last = option_map R.TableRow.encode c.last } };
+    ghost view = { λ c. record {
+      width = R.width;
+      ahead = drop c.at c.page.items;
+      last = option_map R.TableRow.encode c.last;
+    } };
 }
 
 impl<R: PagedRow> Cursor<R> {

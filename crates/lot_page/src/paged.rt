@@ -41,7 +41,8 @@ pub trait PagedRow: TableRow {
             (state S.Store conn.old) (state S.Store conn.new) result };
 
     // The rows of a book rise by the columns of their key.
-    ghost rises: { (trees : Trees) (tables : Tables) → Holds layout trees tables → Rises width (map Self.encode (rows tables)) };
+    ghost rises: { (trees : Trees) (tables : Tables) → Holds layout trees tables
+        → Rises width (map Self.encode (rows tables)) };
 }
 
 /// Returns the first text behind this one: no other text is between them. A query from it on skips all rows that have this

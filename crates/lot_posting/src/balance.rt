@@ -156,7 +156,8 @@ impl Residuals {
     pub fn exact(self) -> Result<(), Refusal>
         ensures ok { OnOk result (first_currency (λ r. not (fits_units r.1)) self ≡ None) }
         ensures refused { IfErr result (λ refusal.
-            option_map InexactFill (first_currency (λ r. not (fits_units r.1)) self) ≡ Some refusal) }
+            option_map InexactFill (first_currency (λ r. not (fits_units r.1)) self)
+            ≡ Some refusal) }
     {
         let Residuals { first, others } = self;
         if let Some((currency, sum)) = first {
@@ -318,7 +319,8 @@ fn add_fill(
 ) -> Result<(), AllocError>
     requires { fits_units sum ≡ true }
     ensures fills { OnOk result (fills.new.items
-        ≡ fills.old.items ++ map (λ r. (r.0, opposite r.1)) (left_over ((currency.now, sum) ∷ []))) }
+        ≡ fills.old.items
+        ++ map (λ r. (r.0, opposite r.1)) (left_over ((currency.now, sum) ∷ []))) }
     ensures memory { OnErr result (is_zero sum ≡ false) }
 {
     match sum.to_units() {

@@ -86,7 +86,8 @@ impl fmt::Display for PrintedRow<'_> {
     ghost use Rattle.std.specs.Prelude.{Some};
     ghost use Rattle.lot_report.specs.Printed.{row_with};
 
-    ghost output = { λ row. Some (row_with row.front.now row.units.now row.commodity.now row.number.now row.lot.now) };
+    ghost output = { λ row. Some
+        (row_with row.front.now row.units.now row.commodity.now row.number.now row.lot.now) };
 
     fn fmt<W: fmt::Write>(&self, f: &mut fmt::Formatter<W>) -> fmt::Result {
         let front = self.front;

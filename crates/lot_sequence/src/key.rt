@@ -42,7 +42,8 @@ fn count<'a>(counts: &mut BTreeMap<Mark<'a>, u64>, row: &Row<'a>) -> Result<u64,
     requires { counted counts.old (said row.now) + 1 < 2 ^ 64 }
     ensures number { IfOk result (λ number. number ≡ counted counts.old (said row.now) + 1) }
     ensures counted { OnOk result ((other : Said) → counted counts.new other
-        ≡ (if is_same (said row.now) other then counted counts.old other + 1 else counted counts.old other)) }
+        ≡ (if is_same (said row.now) other then counted counts.old other + 1
+        else counted counts.old other)) }
 {
     let number = match counts.get(&mark_of(row)) {
         Some(number) => *number + 1,

@@ -47,7 +47,8 @@ impl Given<'_> {
         tables: &[Standing<'n>],
     ) -> Option<BadColumn<'n>>
         ensures { option_map (λ bad. (column_name bad.column.now, bad.cause)) result
-            ≡ first_bad self.entry.optional.now self.entry.header.now (header_columns delimiter number (fields_of line.now) tables.now) }
+            ≡ first_bad self.entry.optional.now self.entry.header.now
+            (header_columns delimiter number (fields_of line.now) tables.now) }
     {
         for table in tables {
             if let Some(bad) = self.under(delimiter, number, line, table) {
@@ -66,7 +67,8 @@ impl Given<'_> {
         table: &Standing<'n>,
     ) -> Option<BadColumn<'n>>
         ensures { option_map (λ bad. (column_name bad.column.now, bad.cause)) result
-            ≡ first_bad self.entry.optional.now self.entry.header.now (columns_under delimiter number (fields_of line.now) table.now) }
+            ≡ first_bad self.entry.optional.now self.entry.header.now
+            (columns_under delimiter number (fields_of line.now) table.now) }
     {
         if table.is_header(delimiter, number, line) {
             self.in_table(table.table())
@@ -92,7 +94,8 @@ impl Given<'_> {
     /// Returns the first bad column of those that kinds use.
     fn in_kinds<'n>(self, kinds: &'n [KindRule]) -> Option<BadColumn<'n>>
         ensures { option_map (λ bad. (column_name bad.column.now, bad.cause)) result
-            ≡ first_bad self.entry.optional.now self.entry.header.now (flat_map kind_columns kinds.now) }
+            ≡ first_bad self.entry.optional.now self.entry.header.now
+            (flat_map kind_columns kinds.now) }
     {
         for kind in kinds {
             if let Some(bad) = self.in_roles(kind.columns.as_slice()) {
@@ -121,7 +124,8 @@ impl Given<'_> {
     /// Returns the first bad column of those of sources.
     fn in_sources<'n>(self, sources: &'n [Source]) -> Option<BadColumn<'n>>
         ensures { option_map (λ bad. (column_name bad.column.now, bad.cause)) result
-            ≡ first_bad self.entry.optional.now self.entry.header.now (flat_map source_columns sources.now) }
+            ≡ first_bad self.entry.optional.now self.entry.header.now
+            (flat_map source_columns sources.now) }
     {
         for source in sources {
             let bad = match source {
@@ -139,7 +143,8 @@ impl Given<'_> {
     /// Returns the first bad column of those of conditions.
     fn in_conditions<'n>(self, conditions: &'n [Condition]) -> Option<BadColumn<'n>>
         ensures { option_map (λ bad. (column_name bad.column.now, bad.cause)) result
-            ≡ first_bad self.entry.optional.now self.entry.header.now (asked_columns conditions.now) }
+            ≡ first_bad self.entry.optional.now self.entry.header.now
+            (asked_columns conditions.now) }
     {
         for condition in conditions {
             if let Some(bad) = self.in_column(&condition.column) {

@@ -330,7 +330,8 @@ fn keep_heads(
     listed: &BTreeMap<Pair, Day>,
 ) -> Result<(), AllocError>
     ensures { OnOk result ((account commodity : List ℕ) → day_in heads.new account commodity
-        ≡ option_or (day_listed listed.now account commodity) (day_in heads.old account commodity)) }
+        ≡ option_or (day_listed listed.now account commodity)
+        (day_in heads.old account commodity)) }
 {
     for (pair, day) in listed {
         set_day(heads, alloc, &pair.account, &pair.commodity, *day)?;
@@ -376,7 +377,8 @@ fn number_of(
     position: &Position,
 ) -> u64
     ensures { (lot : LotKey) → position.now.lot ≡ Some lot → result
-        ≡ with_listed openings.now (openings_in held.now) position.now.account position.now.commodity lot }
+        ≡ with_listed openings.now (openings_in held.now) position.now.account
+        position.now.commodity lot }
 {
     let Some(lot) = &position.lot else {
         return 0;
@@ -428,7 +430,8 @@ fn set_day(
     day: Day,
 ) -> Result<(), AllocError>
     ensures ok { OnOk result ((other what : List ℕ) → day_in heads.new other what
-        ≡ if same_text other account.now && same_text what commodity.now then Some day else day_in heads.old other what) }
+        ≡ if same_text other account.now && same_text what commodity.now then Some day
+        else day_in heads.old other what) }
     ensures err { OnErr result ((other what : List ℕ)
         → day_in heads.new other what ≡ day_in heads.old other what) }
 {
@@ -471,7 +474,8 @@ fn opening_of(
     lot: Option<&LotKey>,
 ) -> Option<u64>
     ensures value { result
-        ≡ option_and_then (opened_at (stock_in held.now account.now) commodity.now) (option_copied lot.entry) }
+        ≡ option_and_then (opened_at (stock_in held.now account.now) commodity.now)
+        (option_copied lot.entry) }
     ensures numbered { NumbersLots (stock_in held.now account.now) }
     ensures no_zeros { HasNoZeros (held_in held.now account.now) }
 {
