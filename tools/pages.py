@@ -664,7 +664,7 @@ ALSO = (
     ("RULES.md, All codes", "lot_verify Fault"),
     ("FORMATS.md, Lines", "lot_read Line"),
     ("FORMATS.md, Forms", "lot_read Text"),
-    ("FORMATS.md, Tokens", "lot_meaning Meaning"),
+    ("FORMATS.md, Tokens", "lot_read Meaning"),
     ("FORMATS.md, Canonical text", "lot_read Text"),
     ("FORMATS.md, Replies", "lot_report Printed"),
     ("FORMATS.md, Faults", "lot_stream FaultLine, lot_cli Says"),

@@ -10,7 +10,7 @@ use Rattle.std.proofs.Math.Seq.{drop-append_seam}
 use Rattle.std.proofs.lemmas.List.{drop-drop, drop-take, length-take}
 use Rattle.lot_stream.specs.Calls.{Calls, Counts, CountsCall, GrowsBy, IsCall}
 use Rattle.lot_stream.specs.Input.{CallsMade, NoneFailed}
-use Rattle.lot_token.specs.Line.{IsLine}
+use Rattle.lot_syntax.specs.Line.{IsLine}
 use Rattle.lot_dump.specs.Cutting.{cut_of, parts}
 use Rattle.lot_dump.specs.Lines.{EndsFor, HasLongLine, Made, TakesAhead, longest_input_line}
 use Rattle.lot_dump.specs.declared.lines.Found.{Found}

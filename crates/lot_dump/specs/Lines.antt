@@ -3,7 +3,7 @@ use Rattle.std.specs.Prelude.{◌≡◌, ◌≢◌, ◌⊎◌, ◌<◌, ◌+◌,
 use Rattle.std.specs.Io.KnownBytes.{IsAtEnd}
 use Rattle.lot_stream.specs.Calls.{Calls, Counts}
 use Rattle.lot_stream.specs.Input.{CallsMade, most_calls}
-use Rattle.lot_token.specs.Line.{IsLine}
+use Rattle.lot_syntax.specs.Line.{IsLine}
 use Rattle.lot_dump.specs.declared.lines.Filled.{Filled}
 use Rattle.lot_dump.specs.declared.lines.Filled.TheVariants.{Ended, Goes}
 use Rattle.lot_dump.specs.declared.lines.Found.{Found}

@@ -1,7 +1,7 @@
 ghost use Rattle.std.specs.Prelude.{◌≡◌, ◌≢◌, ◌≤◌, ◌<◌, ◌+◌, ◌++◌, ◌↔◌, [], vec_len, length, IfErr, IfOk, IsErrOf, OnErr, OnOk};
 ghost use Rattle.std.specs.Io.KnownBytes.{Consumes, prepend_known};
 ghost use Rattle.lot_stream.specs.Input.{NoneFailed, reads_between};
-ghost use Rattle.lot_token.specs.Line.{IsLine};
+ghost use Rattle.lot_syntax.specs.Line.{IsLine};
 ghost use Rattle.lot_dump.specs.Lines.{EndsFor, EndsLine, Fills, HasLongLine, Made, TakesAhead, longest_input_line, text_of};
 
 use crate::cut::cut;

@@ -3,9 +3,9 @@ use Rattle.std.specs.Prelude.{◌≡◌, ℕ, Bool, true, false, List, [], ◌�
 use Rattle.std.proofs.Common.{refl, ap}
 use Rattle.std.proofs.lemmas.Str.{IsUtf8-from_is_utf8, is_utf8-from_IsUtf8}
 use Rattle.std.specs.Str.{IsUtf8, is_utf8}
-use Rattle.lot_token.specs.Token.{Cuts, Lexeme}
-use Rattle.lot_token.specs.Cutting.{cut_of}
-use Rattle.lot_token.proofs.CutLemmas.{cuts_found, found_cuts}
+use Rattle.lot_syntax.specs.Token.{Cuts, Lexeme}
+use Rattle.lot_syntax.specs.Cutting.{cut_of}
+use Rattle.lot_syntax.proofs.CutLemmas.{cuts_found, found_cuts}
 use Rattle.lot_explain.specs.Site.{are_some, ends_at, first_at, found_at, has_tokens, kind_of, with_line}
 use Rattle.lot_explain.specs.declared.site.Kind.{Kind}
 use Rattle.lot_explain.specs.declared.site.Passed.{Passed}

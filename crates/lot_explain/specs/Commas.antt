@@ -3,7 +3,7 @@
 use Rattle.std.specs.Prelude.{ℕ, ◌==◌, Bool, if◌then◌else◌, List, [], ◌∷◌, Option, None, Some}
 use Rattle.std.specs.List.{list_any}
 use Rattle.lot_import.specs.Row.{at_column}
-use Rattle.lot_token.specs.Token.{Lexeme, date, mark, number, text, word}
+use Rattle.lot_syntax.specs.Token.{Lexeme, date, mark, number, text, word}
 use Rattle.lot_explain.specs.Site.{one_more}
 use Rattle.lot_explain.specs.declared.commas.Column.{Column}
 use Rattle.lot_explain.specs.declared.commas.Commas.{Commas}

@@ -2,8 +2,8 @@
 use Rattle.std.specs.Prelude.{ℕ, ◌+◌, ◌-◌, ◌^◌, min, ◌==◌, ◌&&◌, Bool, true, false, if◌then◌else◌, List, [], ◌∷◌, Option, None, Some}
 use Rattle.std.specs.Option.{unwrap_or}
 use Rattle.std.specs.Str.{is_utf8}
-use Rattle.lot_token.specs.Token.{Lexeme}
-use Rattle.lot_token.specs.Cutting.{cut_of}
+use Rattle.lot_syntax.specs.Token.{Lexeme}
+use Rattle.lot_syntax.specs.Cutting.{cut_of}
 use Rattle.lot_read.specs.Line.{is_heading, is_indented}
 use Rattle.lot_explain.specs.declared.site.Kind.{Kind}
 use Rattle.lot_explain.specs.declared.site.Kind.TheVariants.{Begins, Posts, Other}

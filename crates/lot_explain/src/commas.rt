@@ -2,13 +2,13 @@
 
 ghost use Rattle.std.specs.Prelude.{◌≡◌, option_map};
 ghost use Rattle.csv.specs.Records.{fields_of};
-ghost use Rattle.lot_token.specs.Cutting.{lexeme_of};
+ghost use Rattle.lot_syntax.specs.Cutting.{lexeme_of};
 ghost use Rattle.lot_explain.specs.Commas.{first_with_comma, found_at, has_comma, with_comma, with_field, with_record};
 
 use crate::records::{FEE, PRICE, UNITS};
 use csv::ByteRecord;
 use lot_import::field;
-use lot_token::{Token, Tokens};
+use lot_syntax::{Token, Tokens};
 
 /// Returns the first number with a comma among the tokens of a line.
 pub(crate) fn first_with_comma<'a>(tokens: Tokens<'_, 'a>) -> Option<&'a str>

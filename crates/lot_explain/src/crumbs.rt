@@ -14,7 +14,7 @@ use lot_command::canonical::body;
 use lot_command::{Command, Posting};
 use lot_num::Wide;
 use lot_rounding::{Bound, Rounding};
-use lot_token::Lines;
+use lot_syntax::Lines;
 use std::alloc::{AllocError, Global};
 
 /// Returns what was found of the crumbs of a refused command, with a semicolon before it, or nothing.

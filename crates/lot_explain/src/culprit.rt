@@ -4,7 +4,7 @@
 use crate::site::is_indented;
 use lot_command::Command;
 use lot_read::{LineFault, TextFault, read};
-use lot_token::{Mark, Token, Tokens};
+use lot_syntax::{Mark, Token, Tokens};
 use std::alloc::{AllocError, Global};
 use std::str;
 

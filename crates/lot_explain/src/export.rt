@@ -1,7 +1,7 @@
 //! The rows of a broker's export that was imported by a profile, and its lines.
 
 use lot_base::Label;
-use lot_token::Lines;
+use lot_syntax::Lines;
 use std::collections::BTreeMap;
 
 /// A row of an export that has a day.

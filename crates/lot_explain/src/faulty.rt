@@ -11,7 +11,7 @@ use crate::shown::Shown;
 use crate::site::{Kind, Site, is_indented, kind_of};
 use lot_import::Cause;
 use lot_read::LineFault;
-use lot_token::Lines;
+use lot_syntax::Lines;
 use std::alloc::{AllocError, Global};
 use std::io::{self, Write};
 

@@ -22,7 +22,7 @@ use crate::shown::Shown;
 use lot_command::{Command, Key as CommandKey};
 use lot_import::{CommandFault, Row, command};
 use lot_rounding::{Asked, Rounding, RowCash};
-use lot_token::Lines;
+use lot_syntax::Lines;
 use std::alloc::{AllocError, Global};
 use std::io::{self, Write};
 

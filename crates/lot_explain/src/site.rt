@@ -1,11 +1,11 @@
 //! On which line of a ledger text a command begins, or one of its postings stands.
 
 ghost use Rattle.std.specs.Prelude.{◌≡◌, ℕ, List, option_map};
-ghost use Rattle.lot_token.specs.Line.{AreLines};
+ghost use Rattle.lot_syntax.specs.Line.{AreLines};
 ghost use Rattle.lot_read.specs.Line.{is_indented};
 ghost use Rattle.lot_explain.specs.Site.{ends_at, first_at, found_at, has_tokens, kind_of, none_passed, seen, with_line, with_lines};
 
-use lot_token::{Lines, Tokens};
+use lot_syntax::{Lines, Tokens};
 use std::str;
 
 /// A line of a text.

@@ -13,7 +13,7 @@ use lot_cost::Method;
 use lot_import::Row;
 use lot_num::Units;
 use lot_read::{TextFault, read};
-use lot_token::{Lines, Tokens};
+use lot_syntax::{Lines, Tokens};
 use memchr::memchr;
 use std::alloc::{AllocError, Global};
 use std::collections::BTreeMap;

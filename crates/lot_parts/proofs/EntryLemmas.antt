@@ -6,7 +6,7 @@ use Rattle.std.proofs.lemmas.Bool.{and_from, and_parts}
 use Rattle.std.proofs.lemmas.Bool.Decides.{nat_tests}
 use Rattle.lot_base.specs.Day.{day_text}
 use Rattle.lot_base.specs.Name.{is_note_byte}
-use Rattle.lot_token.specs.Line.{IsLine, is_within_line}
+use Rattle.lot_syntax.specs.Line.{IsLine, is_within_line}
 use Rattle.lot_command.specs.declared.command.Command.{Command}
 use Rattle.lot_command.specs.declared.command.Command.TheVariants as Commands
 use Rattle.lot_command.specs.declared.transaction.Posting.{Posting}

@@ -11,7 +11,7 @@ use Rattle.std.proofs.lemmas.Str.Parse.{digit_from_value}
 use Rattle.hex.specs.Hex.{IsBytes, encode_with, hex_digit_value, lower_digits}
 use Rattle.hex.proofs.HexLemmas.{IsDigits-lower_digits}
 use Rattle.lot_base.specs.Name.{IsName, is_label, is_label_byte}
-use Rattle.lot_token.specs.Line.{IsLine, is_within_line}
+use Rattle.lot_syntax.specs.Line.{IsLine, is_within_line}
 use Rattle.lot_report.specs.Printed.{line}
 use Rattle.lot_dump.specs.Form.{IsAnyHead, IsEnd, IsHead, IsHeading, any_head_text, end_front, end_text, head_front, head_text, heading_front, heading_text, of_this_format}
 use Rattle.lot_dump.specs.Cutting.{cut_of}

@@ -3,7 +3,7 @@ use Rattle.std.proofs.Common.{◌≡◌, ◌≢◌, ◌<◌, length, length-appe
 use Rattle.std.specs.Prelude.{◌↔◌, ◌⊎◌, IfSome, Ok, flat_map}
 use Rattle.std.specs.Io.KnownBytes.{Consumes, prepend_known}
 use Rattle.std.proofs.lemmas.Grind.{flat_map-append}
-use Rattle.lot_token.specs.Line.{IsLine}
+use Rattle.lot_syntax.specs.Line.{IsLine}
 use Rattle.lot_report.specs.Printed.{line}
 use Rattle.lot_report.specs.Written.{IsPrefixOf}
 use Rattle.lot_stream.specs.Calls.{Calls, counted}

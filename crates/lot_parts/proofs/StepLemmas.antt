@@ -3,7 +3,7 @@ use Rattle.std.proofs.Common.{◌≡◌, ◌≢◌, inl, inr, ℕ, zero, suc, �
 use Rattle.std.specs.Prelude.{IfSome, flat_map, replicate, slice_index}
 use Rattle.std.specs.Io.KnownBytes.{Consumes, prepend_known}
 use Rattle.std.proofs.lemmas.List.{length-replicate}
-use Rattle.lot_token.specs.Line.{IsLine}
+use Rattle.lot_syntax.specs.Line.{IsLine}
 use Rattle.lot_report.specs.Printed.{line}
 use Rattle.lot_stream.specs.Calls.{counted}
 use Rattle.lot_dump.specs.Form.{IsEnd, IsHead, IsHeading, end_text, head_text, heading_text}

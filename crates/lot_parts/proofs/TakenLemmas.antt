@@ -6,7 +6,7 @@ use Rattle.std.specs.Io.KnownBytes.{Consumes, prepend_known}
 use Rattle.lot_command.specs.declared.command.Command.{Command}
 use Rattle.lot_read.specs.Text.{Reads}
 use Rattle.lot_read.proofs.TextLaws.{not_both as reads_or_faults, reads_one}
-use Rattle.lot_token.specs.Line.{IsLine}
+use Rattle.lot_syntax.specs.Line.{IsLine}
 use Rattle.lot_report.specs.Printed.{line}
 use Rattle.lot_dump.specs.Form.{IsAnyHead, IsEnd, IsHead, any_head_text, end_text, head_text, heading_text, of_this_format, this_edition, this_format}
 use Rattle.lot_dump.specs.declared.end.End.{End}

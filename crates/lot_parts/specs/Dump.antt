@@ -1,7 +1,7 @@
 -- A dump: its head, the ledger text above the first entry, its entries and its end (docs/FORMATS.md, Dump).
 use Rattle.std.specs.Prelude.{◌≡◌, ◌≤◌, ℕ, List, [], ◌∷◌, ◌++◌, flat_map, length, ⊤}
 use Rattle.sha2.specs.Sha256.{sha256}
-use Rattle.lot_token.specs.Line.{IsLine}
+use Rattle.lot_syntax.specs.Line.{IsLine}
 use Rattle.lot_report.specs.Printed.{line}
 use Rattle.lot_report.specs.Written.{IsPrefixOf}
 use Rattle.lot_dump.specs.Form.{IsEnd, IsHead, IsHeading, end_front, end_text, head_front, head_text, heading_front, heading_text}

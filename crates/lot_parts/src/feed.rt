@@ -1,7 +1,7 @@
 ghost use Rattle.std.specs.Prelude.{◌≡◌, ◌≤◌, ◌<◌, ◌+◌, ◌⊎◌, ◌++◌, [], length, vec_len, IfErr, IfOk, IfSome, IsErrOf, OnErr, OnOk};
 ghost use Rattle.lot_stream.specs.Calls.{counted};
 ghost use Rattle.std.specs.Io.KnownBytes.{Consumes, IsAtEnd, prepend_known};
-ghost use Rattle.lot_token.specs.Line.{IsLine};
+ghost use Rattle.lot_syntax.specs.Line.{IsLine};
 ghost use Rattle.lot_report.specs.Printed.{line};
 ghost use Rattle.lot_stream.specs.Input.{NoneFailed, reads_between};
 ghost use Rattle.lot_dump.specs.Form.{IsEnd, IsHead, end_text, head_text};

@@ -29,7 +29,7 @@ pub struct DumpReader {
 }
 
 impl Model for DumpReader {
-    ghost use Rattle.lot_token.specs.Line.{IsLine};
+    ghost use Rattle.lot_syntax.specs.Line.{IsLine};
     ghost use Rattle.lot_parts.specs.Reading.{Reading, ahead_of};
 
     ghost Value = { Reading };

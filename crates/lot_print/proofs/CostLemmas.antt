@@ -10,10 +10,10 @@ use Rattle.lot_base.specs.Day.{day_text}
 use Rattle.lot_base.specs.Name.{IsName, is_commodity, is_label, longest_commodity}
 use Rattle.lot_cost.specs.declared.cost_spec.CostSpec.{CostSpec}
 use Rattle.lot_command.specs.Canonical.{cost_parts, given, in_quotes, joined, money, parts_text, rate_text, units_text}
-use Rattle.lot_token.specs.Token.{Lexeme, Stands, begins, begins_with, is_sign, is_word_byte, is_word_start, date, number, word}
-use Rattle.lot_token.specs.Cutting.{BeginsNumber}
-use Rattle.lot_token.proofs.NumberLemmas.{begins_number}
-use Rattle.lot_form.specs.Form.{CostPart, amount, currency, day, label, money as money_of, part_tokens, parts_tokens}
+use Rattle.lot_syntax.specs.Token.{Lexeme, Stands, begins, begins_with, is_sign, is_word_byte, is_word_start, date, number, word}
+use Rattle.lot_syntax.specs.Cutting.{BeginsNumber}
+use Rattle.lot_syntax.proofs.NumberLemmas.{begins_number}
+use Rattle.lot_syntax.specs.Form.{CostPart, amount, currency, day, label, money as money_of, part_tokens, parts_tokens}
 use Rattle.lot_command.specs.Sayable.{IsSpec}
 use Rattle.lot_print.proofs.ListLemmas.{both_zip, zip_weaker}
 use Rattle.lot_print.proofs.NameLemmas.{commodity_word}

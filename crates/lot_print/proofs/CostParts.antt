@@ -5,8 +5,8 @@ use Rattle.std.specs.List.{list_any}
 use Rattle.lot_base.specs.Day.{IsDayNumber, day_text}
 use Rattle.lot_base.specs.Name.{IsName, is_commodity, is_label}
 use Rattle.lot_cost.specs.declared.cost_spec.CostSpec.{CostSpec}
-use Rattle.lot_form.specs.Form.{CostPart, money, amount, currency, day, label, AtMostOneEach, has_number, how_many, is_day, is_label as is_label_part, is_money}
-use Rattle.lot_meaning.specs.Meaning.{MeansDay, MeansPerhaps, MeansRest, Names, Quotes, number_in, currency_in, day_in, label_in}
+use Rattle.lot_syntax.specs.Form.{CostPart, money, amount, currency, day, label, AtMostOneEach, has_number, how_many, is_day, is_label as is_label_part, is_money}
+use Rattle.lot_read.specs.Meaning.{MeansDay, MeansPerhaps, MeansRest, Names, Quotes, number_in, currency_in, day_in, label_in}
 use Rattle.lot_command.specs.Sayable.{IsSpec}
 use Rattle.lot_print.proofs.MeaningLemmas.{name_means, day_means, label_means}
 

@@ -9,10 +9,10 @@ use Rattle.lot_cost.specs.declared.cost.Cost.TheVariants as Costs
 use Rattle.lot_command.specs.Canonical.{cost_text, part, parts_text, price_text, rate_text, units_text}
 use Rattle.lot_command.specs.declared.price.Price.{Price}
 use Rattle.lot_command.specs.declared.price.Price.TheVariants as Prices
-use Rattle.lot_token.specs.declared.token.Mark.TheVariants as Marks
-use Rattle.lot_token.specs.Token.{Lexeme, begins, begins_with, is_word_byte, mark}
-use Rattle.lot_form.specs.Form.{FitsCost, FitsPerhaps, WrittenCost, WrittenPrice, all_units, cost_tokens, each, each_unit, parts_tokens, perhaps, price_tokens, whole}
-use Rattle.lot_meaning.specs.Meaning.{MeansCost, MeansPerhaps, MeansPrice, MeansRate, MeansTotal, number_in}
+use Rattle.lot_syntax.specs.declared.token.Mark.TheVariants as Marks
+use Rattle.lot_syntax.specs.Token.{Lexeme, begins, begins_with, is_word_byte, mark}
+use Rattle.lot_syntax.specs.Form.{FitsCost, FitsPerhaps, WrittenCost, WrittenPrice, all_units, cost_tokens, each, each_unit, parts_tokens, perhaps, price_tokens, whole}
+use Rattle.lot_read.specs.Meaning.{MeansCost, MeansPerhaps, MeansPrice, MeansRate, MeansTotal, number_in}
 use Rattle.lot_command.specs.Sayable.{IsCost, IsPrice, IsSpec, IsTotal}
 use Rattle.lot_print.proofs.CutLemmas.{IsCut, no_token, regrouped, space_first, token_first}
 use Rattle.lot_print.proofs.MeaningLemmas.{name_means, rate_means, total_means}

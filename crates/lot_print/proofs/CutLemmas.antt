@@ -3,8 +3,8 @@ use Rattle.std.proofs.Common.{◌≡◌, ℕ, false, List, [], ◌∷◌, ◌++�
 use Rattle.std.specs.List.{AllZip, flat_map, join_by}
 use Rattle.std.proofs.lemmas.List.{append-nil}
 use Rattle.lot_command.specs.Canonical.{in_quotes, joined}
-use Rattle.lot_token.specs.Token.{Lexeme, word, text, mark, Cuts, Stands, begins, is_word_byte, spelled}
-use Rattle.lot_token.specs.declared.token.Mark.TheVariants as Marks
+use Rattle.lot_syntax.specs.Token.{Lexeme, word, text, mark, Cuts, Stands, begins, is_word_byte, spelled}
+use Rattle.lot_syntax.specs.declared.token.Mark.TheVariants as Marks
 use Rattle.lot_print.proofs.NameLemmas.{IsWord}
 
 -- ---- One token.

@@ -5,7 +5,7 @@ use Rattle.std.specs.Char.{is_ascii_digit}
 use Rattle.std.proofs.lemmas.Bool.{and_from}
 use Rattle.std.proofs.lemmas.Bool.Decides.{nat_tests}
 use Rattle.lot_base.specs.Day.{count_to, year_of, month_of, day_of, two_digits, four_digits, date_text, day_text}
-use Rattle.lot_token.specs.Token.{AreDigits, IsDate, Stands, date}
+use Rattle.lot_syntax.specs.Token.{AreDigits, IsDate, Stands, date}
 use Rattle.lot_print.proofs.PieceLemmas.{IsPiece, is_printed, printed}
 
 -- ---- The parts of a date are small.

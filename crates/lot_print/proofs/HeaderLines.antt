@@ -21,10 +21,10 @@ use Rattle.lot_command.specs.declared.transaction.Flag.{Flag}
 use Rattle.lot_command.specs.declared.transaction.Flag.TheVariants.{Complete, Incomplete}
 use Rattle.lot_command.specs.declared.transaction.Narration.{Narration}
 use Rattle.lot_command.specs.declared.transaction.Transaction.{Transaction}
-use Rattle.lot_token.specs.declared.token.Mark.TheVariants as Marks
-use Rattle.lot_token.specs.Token.{Lexeme, begins, date, is_blank, is_word_byte, mark, text, word}
-use Rattle.lot_form.specs.Form.{Directive, IsDirective, IsFlag, closing, currency_tokens, declaring, note_tokens, opening, perhaps, quoting, transaction}
-use Rattle.lot_meaning.specs.Meaning.{MeansHeader, MeansMethod, MeansNotes, MeansPerhaps, Names, Quotes}
+use Rattle.lot_syntax.specs.declared.token.Mark.TheVariants as Marks
+use Rattle.lot_syntax.specs.Token.{Lexeme, begins, date, is_blank, is_word_byte, mark, text, word}
+use Rattle.lot_syntax.specs.Form.{Directive, IsDirective, IsFlag, closing, currency_tokens, declaring, note_tokens, opening, perhaps, quoting, transaction}
+use Rattle.lot_read.specs.Meaning.{MeansHeader, MeansMethod, MeansNotes, MeansPerhaps, Names, Quotes}
 use Rattle.lot_read.specs.Line.{IsCommand}
 use Rattle.lot_read.specs.Text.{without_postings}
 use Rattle.lot_command.specs.Sayable.{IsClosing, IsDeclaring, IsNarration, IsOpening, IsQuoting, IsTransaction}

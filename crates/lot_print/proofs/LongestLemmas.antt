@@ -12,7 +12,7 @@ use Rattle.lot_command.specs.declared.command.Command.{Command}
 use Rattle.lot_command.specs.declared.command.Command.TheVariants.{Transaction}
 use Rattle.lot_command.specs.declared.transaction.Flag.TheVariants.{Complete}
 use Rattle.lot_command.specs.declared.transaction.Transaction.{Transaction as TransactionOf}
-use Rattle.lot_token.specs.Line.{AreLines}
+use Rattle.lot_syntax.specs.Line.{AreLines}
 use Rattle.lot_print.specs.Length.{longest_printed}
 use Rattle.lot_command.specs.Sayable.{IsSayable}
 use Rattle.lot_print.proofs.CanonicalLines.{transaction_line}

@@ -12,7 +12,7 @@ use Rattle.lot_base.specs.Day.{IsDayNumber, day_text}
 use Rattle.lot_base.specs.Name.{IsName, is_label, is_note}
 use Rattle.lot_base.proofs.ReadBackLemmas.{named_day-day_text}
 use Rattle.lot_command.specs.Canonical.{escaped, rate_text, units_text}
-use Rattle.lot_meaning.specs.Meaning.{MeansDay, MeansRate, MeansTotal, MeansUnits, Names, Quotes}
+use Rattle.lot_read.specs.Meaning.{MeansDay, MeansRate, MeansTotal, MeansUnits, Names, Quotes}
 use Rattle.lot_command.specs.Sayable.{IsTotal}
 use Rattle.lot_print.proofs.NoteLemmas.{label_escaped}
 

@@ -8,7 +8,7 @@ use Rattle.std.proofs.lemmas.Bool.{and_parts, and_from, or_cases, leb-true}
 use Rattle.std.proofs.lemmas.Bool.Decides.{nat_tests}
 use Rattle.std.proofs.lemmas.List.Splits.{slice_split-cons_yes, slice_split-cons_no}
 use Rattle.lot_base.specs.Name.{is_account, is_account_path, is_root, is_component, is_component_byte, is_commodity, is_commodity_byte, components, longest_account, longest_commodity}
-use Rattle.lot_token.specs.Token.{is_word_start, is_word_byte, begins}
+use Rattle.lot_syntax.specs.Token.{is_word_start, is_word_byte, begins}
 use Rattle.lot_print.proofs.ListLemmas.{all_pass}
 use Rattle.lot_print.proofs.PieceLemmas.{IsPiece, is_printed, printed}
 

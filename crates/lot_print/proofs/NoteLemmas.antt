@@ -15,7 +15,7 @@ use Rattle.lot_cost.specs.declared.method.Method.{Method}
 use Rattle.lot_cost.specs.declared.method.Method.TheVariants.{Strict, Fifo, Lifo, Hifo, Unmatched}
 use Rattle.lot_command.specs.Canonical.{escaped, escaped_byte, in_quotes, quoted}
 use Rattle.lot_command.proofs.CanonicalLemmas.{escaped_plain}
-use Rattle.lot_token.specs.Token.{Stands, text}
+use Rattle.lot_syntax.specs.Token.{Stands, text}
 use Rattle.lot_print.proofs.ListLemmas.{all_pass}
 use Rattle.lot_print.proofs.PieceLemmas.{IsPiece, both_pieces, printed}
 

@@ -13,8 +13,8 @@ use Rattle.lot_num.proofs.GrammarLemmas.{test_from_digit}
 use Rattle.lot_num.proofs.DecimalLemmas.{decimal_digits, shown_decimals_shown}
 use Rattle.lot_base.specs.Day.{is_separator}
 use Rattle.lot_command.specs.Canonical.{units_text, rate_text}
-use Rattle.lot_token.specs.Token.{HasDate, IsFraction, IsNumber, IsSignPart, IsWhole, EndsNumber, Stands, begins, begins_comma_digit, begins_with, is_word_byte, number}
-use Rattle.lot_token.proofs.DateLemmas.{Four, four}
+use Rattle.lot_syntax.specs.Token.{HasDate, IsFraction, IsNumber, IsSignPart, IsWhole, EndsNumber, Stands, begins, begins_comma_digit, begins_with, is_word_byte, number}
+use Rattle.lot_syntax.proofs.DateLemmas.{Four, four}
 use Rattle.lot_print.proofs.Lengths.{longest_number}
 use Rattle.lot_print.proofs.ListLemmas.{all_pass, both_pass, first_passes}
 use Rattle.lot_print.proofs.PieceLemmas.{IsPiece, is_printed, printed}

@@ -5,9 +5,9 @@ use Rattle.lot_base.specs.Name.{is_account, is_commodity, longest_account, longe
 use Rattle.lot_command.specs.Canonical.{amount_part, cost_text, part, price_text, units_text}
 use Rattle.lot_command.specs.declared.transaction.Amount.{Amount}
 use Rattle.lot_command.specs.declared.transaction.Posting.{Posting}
-use Rattle.lot_token.specs.Token.{Lexeme, begins, is_word_byte, number, word}
-use Rattle.lot_form.specs.Form.{FitsCost, FitsPerhaps, WrittenAmount, WrittenPosting, amount_tokens, cost_tokens, perhaps, price_tokens}
-use Rattle.lot_meaning.specs.Meaning.{MeansAmount, MeansPerhaps}
+use Rattle.lot_syntax.specs.Token.{Lexeme, begins, is_word_byte, number, word}
+use Rattle.lot_syntax.specs.Form.{FitsCost, FitsPerhaps, WrittenAmount, WrittenPosting, amount_tokens, cost_tokens, perhaps, price_tokens}
+use Rattle.lot_read.specs.Meaning.{MeansAmount, MeansPerhaps}
 use Rattle.lot_read.specs.Line.{IsPostingLine}
 use Rattle.lot_command.specs.Sayable.{IsAmount, IsPosting}
 use Rattle.lot_print.proofs.CanonicalLines.{posting_line}

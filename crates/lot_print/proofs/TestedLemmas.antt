@@ -7,7 +7,7 @@ use Rattle.lot_command.specs.declared.command.Command.{Command}
 use Rattle.lot_command.specs.declared.command.Command.TheVariants as Commands
 use Rattle.lot_read.specs.Line.{SaysStatement}
 use Rattle.lot_read.specs.Text.{LinesSay, Reads, RunsOutAt, present, statements_of}
-use Rattle.lot_token.specs.Line.{AreLines}
+use Rattle.lot_syntax.specs.Line.{AreLines}
 
 -- ---- out of memory behind a text that was read
 

@@ -12,8 +12,8 @@ use Rattle.lot_cost.proofs.ListLemmas.{all_weaker}
 use Rattle.lot_command.specs.Canonical.{canonical}
 use Rattle.lot_command.specs.declared.command.Command.{Command}
 use Rattle.lot_command.specs.declared.command.Command.TheVariants as Commands
-use Rattle.lot_token.specs.Line.{AreEnded, AreLines, ended_lines, is_within_line, without_mark, without_return}
-use Rattle.lot_token.proofs.LineLemmas.{are_ended, ended_first, lines_are}
+use Rattle.lot_syntax.specs.Line.{AreEnded, AreLines, ended_lines, is_within_line, without_mark, without_return}
+use Rattle.lot_syntax.proofs.LineLemmas.{are_ended, ended_first, lines_are}
 use Rattle.lot_print.specs.Length.{longest_printed}
 use Rattle.lot_command.specs.Sayable.{IsSayable}
 use Rattle.lot_print.proofs.CanonicalLines.{canonical_is, canonical_lines, with_ends}

@@ -3,7 +3,7 @@ ghost use Rattle.std.specs.Prelude.{◌≡◌, ◌≤◌, ℕ, [], ◌∷◌, Li
 ghost use Rattle.std.specs.List.{AllByRecursion};
 ghost use Rattle.lot_command.specs.Canonical.{canonical};
 ghost use Rattle.lot_command.specs.declared.command.Command.{Command};
-ghost use Rattle.lot_token.specs.Line.{AreLines};
+ghost use Rattle.lot_syntax.specs.Line.{AreLines};
 ghost use Rattle.lot_read.specs.Line.{longest_line};
 ghost use Rattle.lot_read.specs.Text.{Reads};
 ghost use Rattle.lot_print.specs.Length.{longest_printed};

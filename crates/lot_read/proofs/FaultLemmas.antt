@@ -3,13 +3,13 @@ use Rattle.std.proofs.Common.{◌≡◌, inl, inr, ℕ, ◌<◌, ◌≤◌, Bool
 use Rattle.std.specs.Prelude.{IsTrue, IsFalse}
 use Rattle.std.specs.Str.{IsUtf8}
 use Rattle.std.proofs.lemmas.Bool.{both_ways}
-use Rattle.lot_token.specs.Token.{Lexeme, Cuts, date}
-use Rattle.lot_token.proofs.CutLemmas.{one_cut}
-use Rattle.lot_form.specs.Form.{Directive, opening, closing, declaring, quoting, transaction, IsDirective, IsFlag, IsHeader, IsPosting, IsUnknown, NamesDirective, WrittenPosting}
+use Rattle.lot_syntax.specs.Token.{Lexeme, Cuts, date}
+use Rattle.lot_syntax.proofs.CutLemmas.{one_cut}
+use Rattle.lot_syntax.specs.Form.{Directive, opening, closing, declaring, quoting, transaction, IsDirective, IsFlag, IsHeader, IsPosting, IsUnknown, NamesDirective, WrittenPosting}
 use Rattle.lot_command.specs.declared.transaction.Flag.{Flag}
 use Rattle.lot_command.specs.declared.transaction.Flag.TheVariants.{Complete, Incomplete}
-use Rattle.lot_meaning.specs.Meaning.{FirstOutside, Item, header_items, posting_items}
-use Rattle.lot_meaning.specs.declared.fault.ValueFault.{ValueFault}
+use Rattle.lot_read.specs.Meaning.{FirstOutside, Item, header_items, posting_items}
+use Rattle.lot_read.specs.declared.fault.ValueFault.{ValueFault}
 use Rattle.lot_read.specs.declared.fault.LineFault.TheVariants as Faults
 use Rattle.lot_read.specs.Line.{longest_line, is_heading, is_indented, IsReadable, Cause, not_utf8, too_long, uncut, unknown_directive, no_form, outside, order, HasTokens, HasForm, Holds, IsFaulty, fault_by}
 use Rattle.lot_read.specs.Reading.{IsLineOf}

@@ -1,3 +1,13 @@
+pub mod ItemLemmas
+pub mod PartLemmas
+pub mod EscapeLemmas
+pub mod DecisionLemmas
+pub mod OneLemmas
+pub mod GivenLemmas
+pub mod CostLemmas
+pub mod PostingLemmas
+pub mod DirectiveLemmas
+pub mod HeaderLemmas
 pub mod FaultLemmas
 pub mod LastLemmas
 pub mod SaidLemmas

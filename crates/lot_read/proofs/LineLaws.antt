@@ -7,28 +7,28 @@ use Rattle.std.proofs.lemmas.Option.{same_Some}
 use Rattle.std.proofs.lemmas.Str.{IsUtf8-from_is_utf8, is_utf8-from_IsUtf8}
 use Rattle.lot_command.specs.declared.command.Command.{Command}
 use Rattle.lot_command.specs.declared.transaction.Posting.{Posting}
-use Rattle.lot_token.specs.declared.token.Mark.TheVariants as Marks
-use Rattle.lot_token.specs.Token.{Lexeme, Cuts, date, mark}
-use Rattle.lot_token.specs.Cutting.{next_of, run, token_at}
-use Rattle.lot_token.proofs.CutLemmas.{cut_follows, cut_or_not, cuts_found, one_cut}
-use Rattle.lot_form.specs.Form.{IsHeader, IsPosting, IsUnknown, WrittenPosting}
-use Rattle.lot_form.specs.Shape.{posting_of}
-use Rattle.lot_form.specs.Header.{header_of}
-use Rattle.lot_form.specs.declared.fault.FormFault.{FormFault}
-use Rattle.lot_form.specs.declared.fault.FormFault.TheVariants.{Syntax, UnknownDirective}
-use Rattle.lot_form.proofs.HeaderLemmas.{Header, header_found, header_is, known_is, no_header, unknown_is}
-use Rattle.lot_form.proofs.PostingLemmas.{no_posting, posting_found, posting_is}
-use Rattle.lot_meaning.specs.Meaning.{AreInside, FirstOutside, Item, MeansHeader, MeansPosting, header_items, posting_items}
-use Rattle.lot_meaning.specs.declared.fault.ValueFault.{ValueFault}
+use Rattle.lot_syntax.specs.declared.token.Mark.TheVariants as Marks
+use Rattle.lot_syntax.specs.Token.{Lexeme, Cuts, date, mark}
+use Rattle.lot_syntax.specs.Cutting.{next_of, run, token_at}
+use Rattle.lot_syntax.proofs.CutLemmas.{cut_follows, cut_or_not, cuts_found, one_cut}
+use Rattle.lot_syntax.specs.Form.{IsHeader, IsPosting, IsUnknown, WrittenPosting}
+use Rattle.lot_syntax.specs.Shape.{posting_of}
+use Rattle.lot_syntax.specs.Header.{header_of}
+use Rattle.lot_syntax.specs.declared.fault.FormFault.{FormFault}
+use Rattle.lot_syntax.specs.declared.fault.FormFault.TheVariants.{Syntax, UnknownDirective}
+use Rattle.lot_syntax.proofs.HeaderLemmas.{Header, header_found, header_is, known_is, no_header, unknown_is}
+use Rattle.lot_syntax.proofs.PostingLemmas.{no_posting, posting_found, posting_is}
+use Rattle.lot_read.specs.Meaning.{AreInside, FirstOutside, Item, MeansHeader, MeansPosting, header_items, posting_items}
+use Rattle.lot_read.specs.declared.fault.ValueFault.{ValueFault}
 use Rattle.lot_read.specs.declared.fault.LineFault.{LineFault}
 use Rattle.lot_read.specs.declared.statement.Statement.{Statement}
 use Rattle.lot_read.specs.declared.statement.Statement.TheVariants.{Begins, Posts}
 use Rattle.lot_read.specs.Line.{longest_line, is_heading, is_indented, IsReadable, IsSkipped, IsCommand, IsPostingLine, SaysStatement, Cause, not_utf8, too_long, uncut, unknown_directive, no_form, outside, order, HasTokens, HasForm, Holds, IsFaulty, fault_by}
 use Rattle.lot_read.specs.Reading.{IsLineOf, SaysAt}
-use Rattle.lot_meaning.proofs.HeaderLemmas.{command_inside, one_command}
-use Rattle.lot_meaning.proofs.DecisionLemmas.{inside_or_not}
-use Rattle.lot_meaning.proofs.ItemLemmas.{not_both, one_fault}
-use Rattle.lot_meaning.proofs.PostingLemmas.{one_posting, posting_inside}
+use Rattle.lot_read.proofs.HeaderLemmas.{command_inside, one_command}
+use Rattle.lot_read.proofs.DecisionLemmas.{inside_or_not}
+use Rattle.lot_read.proofs.ItemLemmas.{not_both, one_fault}
+use Rattle.lot_read.proofs.PostingLemmas.{one_posting, posting_inside}
 use Rattle.lot_read.proofs.FaultLemmas.{bad_cut, bad_directive, bad_header, bad_header_value, bad_length, bad_posting, bad_posting_value, bad_utf8, form_known}
 use Rattle.lot_read.proofs.StatementLemmas.{some_says_command, some_says_posting}
 

@@ -8,8 +8,8 @@ use Rattle.lot_command.specs.declared.command.Command.{Command}
 use Rattle.lot_command.specs.declared.command.Command.TheVariants.{Opening, Closing, Declaring, Quoting, Transaction}
 use Rattle.lot_command.specs.declared.transaction.Posting.{Posting}
 use Rattle.lot_command.specs.declared.transaction.Transaction.{Transaction as TransactionOf}
-use Rattle.lot_form.specs.Form.{Directive, opening, closing, declaring, quoting, transaction}
-use Rattle.lot_meaning.specs.Meaning.{MeansHeader}
+use Rattle.lot_syntax.specs.Form.{Directive, opening, closing, declaring, quoting, transaction}
+use Rattle.lot_read.specs.Meaning.{MeansHeader}
 use Rattle.lot_read.specs.declared.statement.Statement.{Statement}
 use Rattle.lot_read.specs.declared.statement.Statement.TheVariants.{Begins, Posts}
 use Rattle.lot_read.specs.Line.{SaysStatement}

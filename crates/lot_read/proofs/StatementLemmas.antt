@@ -2,16 +2,16 @@
 use Rattle.std.proofs.Common.{◌≡◌, inl, inr, ℕ, Bool, true, false, List, [], ◌∷◌, Some, Err, refl, subst}
 use Rattle.std.specs.Prelude.{◌⊎◌, ◌≢◌, IsTrue, MatchOption, None, Option}
 use Rattle.std.specs.Option.{is_some}
-use Rattle.lot_token.specs.Token.{Lexeme}
+use Rattle.lot_syntax.specs.Token.{Lexeme}
 use Rattle.lot_command.specs.declared.command.Command.{Command}
 use Rattle.lot_command.specs.declared.transaction.Posting.{Posting}
-use Rattle.lot_form.specs.Form.{Directive, IsHeader, IsPosting, IsUnknown, WrittenPosting}
-use Rattle.lot_form.specs.declared.fault.FormFault.{FormFault}
-use Rattle.lot_form.specs.declared.fault.FormFault.TheVariants.{Syntax, UnknownDirective}
-use Rattle.lot_meaning.specs.declared.fault.MeaningFault.{MeaningFault}
-use Rattle.lot_meaning.specs.declared.fault.MeaningFault.TheVariants.{Outside, Memory}
-use Rattle.lot_meaning.specs.declared.fault.ValueFault.{ValueFault}
-use Rattle.lot_meaning.specs.Meaning.{AreInside, FirstOutside, MeansHeader, MeansPosting, header_items, posting_items}
+use Rattle.lot_syntax.specs.Form.{Directive, IsHeader, IsPosting, IsUnknown, WrittenPosting}
+use Rattle.lot_syntax.specs.declared.fault.FormFault.{FormFault}
+use Rattle.lot_syntax.specs.declared.fault.FormFault.TheVariants.{Syntax, UnknownDirective}
+use Rattle.lot_read.specs.declared.fault.MeaningFault.{MeaningFault}
+use Rattle.lot_read.specs.declared.fault.MeaningFault.TheVariants.{Outside, Memory}
+use Rattle.lot_read.specs.declared.fault.ValueFault.{ValueFault}
+use Rattle.lot_read.specs.Meaning.{AreInside, FirstOutside, MeansHeader, MeansPosting, header_items, posting_items}
 use Rattle.lot_read.specs.declared.statement.Statement.{Statement}
 use Rattle.lot_read.specs.declared.statement.Statement.TheVariants.{Begins, Posts}
 use Rattle.lot_read.specs.declared.statement.StatementFault.{StatementFault}
@@ -21,8 +21,8 @@ use Rattle.lot_read.specs.Text.{takes_posting}
 use Rattle.lot_read.specs.Reading.{GivesStatement, IsLineOf, SaysAt, Stops, of_form, of_meaning}
 use Rattle.lot_read.proofs.SaidLemmas.{continues_some}
 use Rattle.lot_read.proofs.FaultLemmas.{bad_directive, bad_header, bad_header_value, bad_posting_value}
-use Rattle.lot_meaning.proofs.HeaderLemmas.{some_command}
-use Rattle.lot_meaning.proofs.PostingLemmas.{some_posting}
+use Rattle.lot_read.proofs.HeaderLemmas.{some_command}
+use Rattle.lot_read.proofs.PostingLemmas.{some_posting}
 
 pub says_command : (may_post : Bool) (line : List ℕ) (tokens : List Lexeme) (day : List ℕ) (directive : Directive) (command : Command)
     → IsLineOf false tokens line → IsHeader tokens day directive → MeansHeader day directive command → SaysAt may_post line (Some (Begins command))

@@ -5,8 +5,8 @@ use Rattle.std.specs.List.{AllZip, flat_map}
 use Rattle.std.proofs.lemmas.Bool.{cases_order}
 use Rattle.std.proofs.lemmas.List.{append-nil, append_assoc}
 use Rattle.lot_command.specs.declared.command.Command.{Command}
-use Rattle.lot_token.specs.Line.{AreLines, lines_of, without_mark}
-use Rattle.lot_token.proofs.LineLemmas.{have_lines, lines_are}
+use Rattle.lot_syntax.specs.Line.{AreLines, lines_of, without_mark}
+use Rattle.lot_syntax.proofs.LineLemmas.{have_lines, lines_are}
 use Rattle.lot_read.specs.declared.fault.LineFault.{LineFault}
 use Rattle.lot_read.specs.declared.statement.Statement.{Statement}
 use Rattle.lot_read.specs.declared.statement.Statement.TheVariants.{Begins, Posts}

@@ -4,7 +4,7 @@ use Rattle.std.specs.List.{flat_map}
 use Rattle.std.proofs.lemmas.Bool.Decides.{nat_tests}
 use Rattle.std.proofs.lemmas.List.{append-nil, append_assoc, length-map, length_push}
 use Rattle.lot_command.specs.declared.command.Command.{Command}
-use Rattle.lot_token.specs.Line.{AreEnded, AreLines, without_mark, without_return}
+use Rattle.lot_syntax.specs.Line.{AreEnded, AreLines, without_mark, without_return}
 use Rattle.lot_read.specs.declared.fault.LineFault.{LineFault}
 use Rattle.lot_read.specs.declared.statement.StatementFault.{StatementFault}
 use Rattle.lot_read.specs.declared.statement.StatementFault.TheVariants.{Line, Memory}

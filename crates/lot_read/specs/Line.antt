@@ -4,11 +4,11 @@ use Rattle.std.specs.Prelude.{◌≡◌, ◌≢◌, ◌⊎◌, ◌≤◌, ◌<�
 use Rattle.std.specs.Str.{IsUtf8}
 use Rattle.lot_command.specs.declared.command.Command.{Command}
 use Rattle.lot_command.specs.declared.transaction.Posting.{Posting}
-use Rattle.lot_token.specs.Token.{Lexeme, Cuts, begins, begins_with, is_blank}
-use Rattle.lot_form.specs.Form.{Directive, IsHeader, IsPosting, IsUnknown, WrittenPosting}
-use Rattle.lot_meaning.specs.Meaning.{FirstOutside, Item, MeansHeader, MeansPosting, header_items, posting_items}
-use Rattle.lot_meaning.specs.declared.fault.ValueFault.{ValueFault}
-use Rattle.lot_meaning.specs.declared.fault.ValueFault.TheVariants as Values
+use Rattle.lot_syntax.specs.Token.{Lexeme, Cuts, begins, begins_with, is_blank}
+use Rattle.lot_syntax.specs.Form.{Directive, IsHeader, IsPosting, IsUnknown, WrittenPosting}
+use Rattle.lot_read.specs.Meaning.{FirstOutside, Item, MeansHeader, MeansPosting, header_items, posting_items}
+use Rattle.lot_read.specs.declared.fault.ValueFault.{ValueFault}
+use Rattle.lot_read.specs.declared.fault.ValueFault.TheVariants as Values
 use Rattle.lot_read.specs.declared.fault.LineFault.{LineFault}
 use Rattle.lot_read.specs.declared.fault.LineFault.TheVariants as Faults
 use Rattle.lot_read.specs.declared.statement.Statement.{Statement}

@@ -4,16 +4,16 @@ use Rattle.lot_command.specs.declared.command.Command.{Command}
 use Rattle.lot_command.specs.declared.command.Command.TheVariants.{Transaction}
 use Rattle.lot_command.specs.declared.transaction.Posting.{Posting}
 use Rattle.lot_command.specs.declared.transaction.Transaction.{Transaction as TransactionOf}
-use Rattle.lot_token.specs.Token.{Lexeme}
-use Rattle.lot_form.specs.declared.fault.FormFault.{FormFault}
-use Rattle.lot_form.specs.declared.fault.FormFault.TheVariants as Forms
-use Rattle.lot_meaning.specs.declared.fault.MeaningFault.{MeaningFault}
-use Rattle.lot_meaning.specs.declared.fault.MeaningFault.TheVariants as Meanings
+use Rattle.lot_syntax.specs.Token.{Lexeme}
+use Rattle.lot_syntax.specs.declared.fault.FormFault.{FormFault}
+use Rattle.lot_syntax.specs.declared.fault.FormFault.TheVariants as Forms
+use Rattle.lot_read.specs.declared.fault.MeaningFault.{MeaningFault}
+use Rattle.lot_read.specs.declared.fault.MeaningFault.TheVariants as Meanings
 use Rattle.lot_read.specs.declared.fault.LineFault.TheVariants as Faults
 use Rattle.lot_read.specs.declared.fault.TextFault.{TextFault}
 use Rattle.lot_read.specs.declared.fault.TextFault.TheVariants as TextFaults
-use Rattle.lot_read.specs.declared.line.Place.{Place}
-use Rattle.lot_read.specs.declared.line.Place.TheVariants.{InTransaction, Elsewhere}
+use Rattle.lot_read.specs.declared.line.Context.{Context}
+use Rattle.lot_read.specs.declared.line.Context.TheVariants.{InTransaction, Elsewhere}
 use Rattle.lot_read.specs.declared.statement.Statement.{Statement}
 use Rattle.lot_read.specs.declared.statement.Statement.TheVariants.{Begins, Posts}
 use Rattle.lot_read.specs.declared.statement.StatementFault.{StatementFault}
@@ -21,7 +21,7 @@ use Rattle.lot_read.specs.declared.statement.StatementFault.TheVariants.{Line, M
 use Rattle.lot_read.specs.Line.{IsReadable, HasTokens, IsFaulty, SaysStatement, fault_by, outside, is_indented}
 use Rattle.lot_read.specs.Text.{LinesSay, takes_posting}
 
-abbrev pub may_post : Place → Bool
+abbrev pub may_post : Context → Bool
 may_post InTransaction = true
 may_post Elsewhere = false
 

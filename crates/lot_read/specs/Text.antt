@@ -4,7 +4,7 @@ use Rattle.std.specs.List.{AllZip}
 use Rattle.lot_command.specs.declared.command.Command.{Command}
 use Rattle.lot_command.specs.declared.command.Command.TheVariants.{Opening, Closing, Declaring, Quoting, Transaction}
 use Rattle.lot_command.specs.declared.transaction.Transaction.{Transaction as TransactionOf}
-use Rattle.lot_token.specs.Line.{AreLines}
+use Rattle.lot_syntax.specs.Line.{AreLines}
 use Rattle.lot_read.specs.Line.{SaysStatement, IsFaulty}
 use Rattle.lot_read.specs.declared.fault.LineFault.{LineFault}
 use Rattle.lot_read.specs.declared.fault.TextFault.{TextFault}

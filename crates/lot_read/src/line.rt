@@ -3,16 +3,16 @@ ghost use Rattle.lot_read.specs.Line.{IsFaulty, IsReadable, is_heading, is_inden
 ghost use Rattle.lot_read.specs.Reading.{GivesStatement, IsLineOf, may_post};
 
 use crate::fault::LineFault;
+use crate::known::KnownNames;
 use crate::statement::{Statement, StatementFault};
-use lot_form::{CurrencyWords, Parts};
-use lot_meaning::KnownNames;
-use lot_token::{LineTokens, Tokens};
+use crate::{header_line, posting_line};
+use lot_syntax::{CurrencyWords, LineTokens, Parts, Tokens};
 use std::alloc::Global;
 use std::str;
 
 /// Where a line stands.
 #[derive(Clone, Copy)]
-pub(crate) enum Place {
+pub(crate) enum Context {
     /// Behind a transaction, of which it may be the next posting.
     InTransaction,
     /// Behind another command, or before all of them.
@@ -24,7 +24,7 @@ const LONGEST_LINE: usize = 4_096;
 
 /// What is kept from line to line, so that a further one takes the same memory.
 #[derive(Drop)]
-pub(crate) struct Kept<'a> {
+pub(crate) struct LineRoom<'a> {
     /// The accounts, commodities and labels.
     names: KnownNames,
     /// The tokens of the line.
@@ -35,10 +35,10 @@ pub(crate) struct Kept<'a> {
     parts: Parts<'a>,
 }
 
-impl<'a> Kept<'a> {
+impl<'a> LineRoom<'a> {
     /// Returns what is kept before the first line.
-    pub(crate) fn new(alloc: Global) -> Kept<'a> {
-        Kept {
+    pub(crate) fn new(alloc: Global) -> LineRoom<'a> {
+        LineRoom {
             names: KnownNames::new(alloc),
             tokens: LineTokens::new(alloc),
             currencies: CurrencyWords::new(),
@@ -50,11 +50,11 @@ impl<'a> Kept<'a> {
 /// Returns what a line says, given without its line end, or nothing where it is skipped (docs/FORMATS.md, Forms). The error is
 /// out of memory, or what is wrong with the line (docs/FORMATS.md, Order of faults).
 pub(crate) fn statement<'a>(
-    kept: &mut Kept<'a>,
+    kept: &mut LineRoom<'a>,
     line: &'a [u8],
-    place: Place,
+    context: Context,
 ) -> Result<Option<Statement>, StatementFault>
-    ensures { GivesStatement (may_post place) line.now result }
+    ensures { GivesStatement (may_post context) line.now result }
 {
     let text = readable(line)?;
     if is_heading(text) {
@@ -68,9 +68,9 @@ pub(crate) fn statement<'a>(
     if !is_indented(text) {
         return command(&mut kept.names, &mut kept.currencies, &tokens);
     }
-    match place {
-        Place::InTransaction => posting(&mut kept.names, &mut kept.parts, &tokens),
-        Place::Elsewhere => Err(StatementFault::Line(LineFault::Syntax)),
+    match context {
+        Context::InTransaction => posting(&mut kept.names, &mut kept.parts, &tokens),
+        Context::Elsewhere => Err(StatementFault::Line(LineFault::Syntax)),
     }
 }
 
@@ -110,8 +110,8 @@ fn command<'a>(
     ensures { (may_post : Bool) (line : List ℕ) → IsLineOf false tokens.now line
         → GivesStatement may_post line result }
 {
-    let form = lot_form::header(room, tokens)?;
-    let command = lot_meaning::command(names, &form)?;
+    let form = lot_syntax::header(room, tokens)?;
+    let command = header_line::command(names, &form)?;
     Ok(Some(Statement::Begins(command)))
 }
 
@@ -123,9 +123,9 @@ fn posting<'a>(
 ) -> Result<Option<Statement>, StatementFault>
     ensures { (line : List ℕ) → IsLineOf true tokens.now line → GivesStatement true line result }
 {
-    let Some(form) = lot_form::posting(room, tokens) else {
+    let Some(form) = lot_syntax::posting(room, tokens) else {
         return Err(StatementFault::Line(LineFault::Syntax));
     };
-    let posting = lot_meaning::posting(names, &form)?;
+    let posting = posting_line::posting(names, &form)?;
     Ok(Some(Statement::Posts(posting)))
 }

@@ -3,10 +3,10 @@ ghost use Rattle.lot_read.specs.Reading.{Continues, Posted, Stops, may_post, of_
 ghost use Rattle.lot_read.specs.Text.{IsFaultOf, Reads, takes_posting};
 
 use crate::fault::TextFault;
-use crate::line::{Kept, Place, statement};
+use crate::line::{Context, LineRoom, statement};
 use crate::statement::{Statement, StatementFault};
 use lot_command::{Command, Posting};
-use lot_token::Lines;
+use lot_syntax::Lines;
 use std::alloc::{AllocFailed, Global};
 
 /// Returns the commands that a ledger text says (docs/FORMATS.md, Ledger text). The error is the first faulty line with its
@@ -16,7 +16,7 @@ pub fn read(alloc: Global, text: &[u8]) -> Result<Vec<Command>, TextFault>
     ensures fault { IfErr result (λ fault. IsFaultOf text.now fault) }
 {
     let mut commands = Vec::new(alloc);
-    let mut kept = Kept::new(alloc);
+    let mut kept = LineRoom::new(alloc);
     let mut number = 0u64;
     for line in Lines::new(text) {
         number += 1;
@@ -40,13 +40,13 @@ fn at_line(line: u64, fault: StatementFault) -> TextFault
 /// Adds what the next line says to the commands so far.
 fn take<'a>(
     commands: &mut Vec<Command>,
-    kept: &mut Kept<'a>,
+    kept: &mut LineRoom<'a>,
     line: &'a [u8],
 ) -> Result<(), StatementFault>
     ensures ok { OnOk result (Continues line.now commands.old.items commands.new.items) }
     ensures fault { IfErr result (λ fault. Stops line.now commands.old.items fault) }
 {
-    match statement(kept, line, place_behind(commands))? {
+    match statement(kept, line, context_behind(commands))? {
         None => Ok(()),
         Some(Statement::Begins(command)) => {
             end_last(commands);
@@ -57,15 +57,15 @@ fn take<'a>(
 }
 
 /// Returns where the line behind these commands stands.
-fn place_behind(commands: &[Command]) -> Place
+fn context_behind(commands: &[Command]) -> Context
     ensures { may_post result ≡ takes_posting commands.now }
 {
     let Some(last) = commands.last() else {
-        return Place::Elsewhere;
+        return Context::Elsewhere;
     };
     match last {
-        Command::Transaction(_) => Place::InTransaction,
-        _ => Place::Elsewhere,
+        Command::Transaction(_) => Context::InTransaction,
+        _ => Context::Elsewhere,
     }
 }
 

@@ -1,8 +1,6 @@
-use crate::fault::LineFault;
+use crate::fault::{LineFault, MeaningFault, ValueFault};
 use lot_command::{Command, Posting};
-use lot_form::FormFault;
-use lot_meaning::{MeaningFault, ValueFault};
-use lot_token::Uncut;
+use lot_syntax::{FormFault, Uncut};
 use std::alloc::AllocFailed;
 
 /// What a line says that isn't skipped.

@@ -1,7 +1,7 @@
 -- By what the line is cut into.
 use Rattle.std.proofs.Common.{List, subst, sym, ◌∙◌, ℕ}
-use Rattle.lot_token.specs.Token.{Cuts}
-use Rattle.lot_token.specs.Cutting.{lexeme_of}
+use Rattle.lot_syntax.specs.Token.{Cuts}
+use Rattle.lot_syntax.specs.Cutting.{lexeme_of}
 use Rattle.lot_explain.proofs.SiteLemmas.{none_in_bytes, none_in_uncut, some_first, tokens_of}
 use Rattle.lot_explain.proofs.site.has_tokens.Goals as goal
 

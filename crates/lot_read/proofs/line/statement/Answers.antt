@@ -1,7 +1,7 @@
 -- The tokens of the line are those from which its command is taken.
 use Rattle.std.proofs.Common.{List, ◌∙◌, sym, ap, subst}
-use Rattle.lot_token.specs.Token.{Lexeme, Cuts}
-use Rattle.lot_token.specs.Cutting.{lexeme_of}
+use Rattle.lot_syntax.specs.Token.{Lexeme, Cuts}
+use Rattle.lot_syntax.specs.Cutting.{lexeme_of}
 use Rattle.lot_read.specs.Line.{is_heading, is_indented}
 use Rattle.std.proofs.lemmas.Result.{err_from_is_err_and}
 use Rattle.lot_read.specs.Reading.{may_post}
@@ -28,6 +28,6 @@ pub returns-in_err-cut : goal.returns-in_err-cut
 returns-in_err-cut c =
     let p = err_from_is_err_and c.from_residual-in_err-cut.result c.from_residual-in_err-cut.ensures.1 in
     rw (p.1, p.2)
-    (bad_cut (may_post c.args.place) c.args.line.now c.in_ok-text.ensures.readable
+    (bad_cut (may_post c.args.context) c.args.line.now c.in_ok-text.ensures.readable
     (ap is_heading (sym c.in_ok-text.ensures.text) ∙ sym c.is_heading.ensures ∙ c.if-is_heading.false)
     (λ tokens cuts. c.in_err-cut.ensures.uncut tokens (subst (Cuts tokens) (sym c.in_ok-text.ensures.text) cuts)))

@@ -1,7 +1,7 @@
 -- One more line adds to the commands, or is the first faulty one.
 use Rattle.std.proofs.Common.{ℕ, ◌+◌, List, [], ◌∷◌, ◌++◌, sym, subst, ap, ◌∙◌, arith, length, refl, length-append}
 use Rattle.std.proofs.lemmas.List.{length_push}
-use Rattle.lot_token.specs.Line.{AreLines}
+use Rattle.lot_syntax.specs.Line.{AreLines}
 use Rattle.lot_read.proofs.TextLemmas.{fault_of, lines_few, next_lines, no_lines, pushed_lines, reads_all}
 use Rattle.lot_read.proofs.reader.read.Goals as goal
 

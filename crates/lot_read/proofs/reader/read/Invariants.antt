@@ -1,6 +1,6 @@
 -- The lines so far stand before those left, and say the commands so far.
 use Rattle.std.proofs.Common.{◌≡◌, ◌++◌, List, ℕ, length}
-use Rattle.lot_token.specs.Line.{AreLines}
+use Rattle.lot_syntax.specs.Line.{AreLines}
 use Rattle.lot_read.specs.Text.{LinesSay}
 use Rattle.lot_read.proofs.reader.read.Given as goal
 

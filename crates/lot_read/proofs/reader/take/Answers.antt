@@ -12,8 +12,8 @@ pub returns-in_err-statement-clause-fault : goal.returns-in_err-statement-clause
 returns-in_err-statement-clause-fault c =
     let p = err_from_is_err_and c.from_residual.result c.from_residual.ensures.1 in
     rw (p.1, p.2)
-    (stops_line (may_post c.place_behind.result) c.args.line.now c.args.commands.now.items c.in_err-statement.field-0.0
-    (c.place_behind.ensures ∙ ap takes_posting c.deref.ensures.value) c.in_err-statement.ensures)
+    (stops_line (may_post c.context_behind.result) c.args.line.now c.args.commands.now.items c.in_err-statement.field-0.0
+    (c.context_behind.ensures ∙ ap takes_posting c.deref.ensures.value) c.in_err-statement.ensures)
 
 pub returns-in_err-push-in-Some-Begins-clause-fault :
     goal.returns-in_err-push-in-Some-Begins-clause-fault
@@ -21,8 +21,8 @@ returns-in_err-push-in-Some-Begins-clause-fault c =
     let p = err_from_is_err_and c.from_residual-in_err-push-in-Some-Begins.result c.from_residual-in_err-push-in-Some-Begins.ensures.1 in
     let says = rw (c.in-Some-Begins.is, c.in-Some-Begins.field-0-is) at c.in_ok-statement.ensures in
     rw (p.1, p.2)
-    (stops_memory (may_post c.place_behind.result) c.args.line.now (Some (Begins c.in-Some-Begins.command)) c.args.commands.now.items
-    (c.place_behind.ensures ∙ ap takes_posting c.deref.ensures.value) says)
+    (stops_memory (may_post c.context_behind.result) c.args.line.now (Some (Begins c.in-Some-Begins.command)) c.args.commands.now.items
+    (c.context_behind.ensures ∙ ap takes_posting c.deref.ensures.value) says)
 
 pub returns-in_err-post-in-Some-Posts-clause-fault :
     goal.returns-in_err-post-in-Some-Posts-clause-fault
@@ -30,8 +30,8 @@ returns-in_err-post-in-Some-Posts-clause-fault c =
     let p = err_from_is_err_and c.from_residual-in_err-post-in-Some-Posts.result c.from_residual-in_err-post-in-Some-Posts.ensures.1 in
     let says = rw (c.in-Some-Posts.is, c.in-Some-Posts.field-0-is) at c.in_ok-statement.ensures in
     rw (p.1, p.2)
-    (stops_memory (may_post c.place_behind.result) c.args.line.now (Some (Posts c.in-Some-Posts.posting)) c.args.commands.now.items
-    (c.place_behind.ensures ∙ ap takes_posting c.deref.ensures.value) says)
+    (stops_memory (may_post c.context_behind.result) c.args.line.now (Some (Posts c.in-Some-Posts.posting)) c.args.commands.now.items
+    (c.context_behind.ensures ∙ ap takes_posting c.deref.ensures.value) says)
 
 pub returns-in-None-clause-ok : goal.returns-in-None-clause-ok
 returns-in-None-clause-ok c =

@@ -2,7 +2,7 @@
 use Rattle.std.proofs.Common.{◌≡◌, ◌+◌, ℕ, List, arith, refl, subst, sym}
 use Rattle.std.specs.Io.KnownBytes.{Consumes, prepend_known}
 use Rattle.std.proofs.lemmas.Result.{err_from_is_err_and}
-use Rattle.lot_token.specs.Line.{IsLine}
+use Rattle.lot_syntax.specs.Line.{IsLine}
 use Rattle.lot_dump.specs.declared.lines.LineFault.TheVariants.{TooLong}
 use Rattle.lot_dump.proofs.LineLemmas.{ahead_cause, between, made_on, none_failed, none_made, nothing_taken, part_goes, part_line, read_cause, too_long_by}
 use Rattle.lot_dump.proofs.lines.LineReader.next_line.Goals as goal

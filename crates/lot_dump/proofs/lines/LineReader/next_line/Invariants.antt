@@ -1,7 +1,7 @@
 -- The line so far stands before what is ahead and what the reader has left, and no call failed.
 use Rattle.std.proofs.Common.{◌≤◌, vec_len}
 use Rattle.std.specs.Io.KnownBytes.{Consumes, prepend_known}
-use Rattle.lot_token.specs.Line.{IsLine}
+use Rattle.lot_syntax.specs.Line.{IsLine}
 use Rattle.lot_dump.proofs.LineLemmas.{between}
 use Rattle.lot_dump.specs.Lines.{Made, longest_input_line}
 use Rattle.lot_dump.proofs.lines.LineReader.next_line.Given as goal

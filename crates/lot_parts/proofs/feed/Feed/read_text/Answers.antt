@@ -2,7 +2,7 @@
 use Rattle.std.proofs.Common.{ap, ◌≡◌, ◌++◌, List, ℕ, refl, subst, sym, arith, length}
 use Rattle.std.specs.Io.KnownBytes.{Consumes, prepend_known}
 use Rattle.std.proofs.lemmas.Result.{err_from_is_err_and}
-use Rattle.lot_token.specs.Line.{IsLine}
+use Rattle.lot_syntax.specs.Line.{IsLine}
 use Rattle.lot_report.specs.Printed.{line}
 use Rattle.lot_dump.proofs.LineLemmas.{between}
 use Rattle.lot_parts.specs.Dump.{IsLedger, IsText}

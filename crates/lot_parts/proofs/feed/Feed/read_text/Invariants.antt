@@ -1,7 +1,7 @@
 -- The text so far is ledger text, and stood before what is left.
 use Rattle.std.proofs.Common.{◌≡◌, ◌≤◌, ◌+◌, vec_len}
 use Rattle.std.specs.Io.KnownBytes.{Consumes, prepend_known}
-use Rattle.lot_token.specs.Line.{IsLine}
+use Rattle.lot_syntax.specs.Line.{IsLine}
 use Rattle.lot_stream.specs.Calls.{counted}
 use Rattle.lot_stream.specs.Input.{NoneFailed}
 use Rattle.lot_dump.proofs.LineLemmas.{between}

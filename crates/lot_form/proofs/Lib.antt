@@ -1,4 +1,0 @@
-pub mod PartLemmas
-pub mod PostingLemmas
-pub mod CurrencyLemmas
-pub mod HeaderLemmas

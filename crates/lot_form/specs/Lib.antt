@@ -1,3 +1,0 @@
-pub mod Form
-pub mod Shape
-pub mod Header

@@ -1,7 +1,0 @@
--- Those that are kept are the first ones.
-use Rattle.std.proofs.Common.{◌≡◌, map, take}
-use Rattle.lot_form.specs.Header.{seen_text}
-use Rattle.lot_meaning.proofs.currencies.CurrencyParts.keep.Given as goal
-
-abbrev pub invariant-loop-word : goal.invariant-loop-word
-invariant-loop-word l = l.items.items ≡ map seen_text (take l.word-index l.word-items)

@@ -1,5 +1,0 @@
-pub mod Meaning
-pub mod Outside
-pub mod Refusal
-pub mod Checked
-pub mod NameLaws

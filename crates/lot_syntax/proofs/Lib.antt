@@ -1,0 +1,15 @@
+pub mod OptionLemmas
+pub mod RunLemmas
+pub mod WithinLemmas
+pub mod DateLemmas
+pub mod NumberLemmas
+pub mod TokenLemmas
+pub mod FoundLemmas
+pub mod CutLemmas
+pub mod Boundaries
+pub mod TextAt
+pub mod LineLemmas
+pub mod PartLemmas
+pub mod PostingLemmas
+pub mod CurrencyLemmas
+pub mod HeaderLemmas
