@@ -12,7 +12,7 @@ ghost use Rattle.std.specs.Prelude.{
   length,
   option_copied,
 };
-ghost use Rattle.lot_report.specs.Output.{HasFailed, NoneFailed, writes_between};
+ghost use Rattle.lot_io.specs.Writes.{HasFailed, NoneFailed, writes_between};
 ghost use Rattle.lot_report.specs.Written.{WritesLine};
 ghost use Rattle.lot_atomic.specs.Replies.{
   RunsAll,
@@ -41,8 +41,9 @@ use crate::look::Look;
 use itoa::Buffer;
 use lot_command::Key;
 use lot_completion::Watch;
+use lot_io::CountedWrite;
 use lot_ledger::Verdict;
-use lot_report::{CountedWrite, PrintFault, print_reply, print_texts};
+use lot_report::{PrintFault, print_reply, print_texts};
 use lot_rounding::{Asked, Rounding};
 use lot_store::{Ending, RunEnd, StoreFault};
 use sqlite::{Alter, Connection};

@@ -2,7 +2,7 @@
 use Rattle.std.proofs.Common.{◌≡◌, refl, sym}
 use Rattle.std.proofs.lemmas.Bool.{true≢false}
 use Rattle.std.specs.Prelude.{Result, Ok, Err, IsErrAnd}
-use Rattle.lot_report.specs.Output.{HasFailed, NoneFailed, WritesMade}
+use Rattle.lot_io.specs.Writes.{HasFailed, NoneFailed, WritesMade}
 use Rattle.lot_report.specs.declared.fault.ReportFault.TheVariants as report
 use Rattle.lot_report.specs.declared.fault.RowFault.{RowFault}
 use Rattle.lot_report.specs.declared.fault.RowFault.TheVariants.{Report, Spent}

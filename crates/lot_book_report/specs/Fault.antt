@@ -1,6 +1,6 @@
 -- Why a report of a book ends before its end: the code and the name of each fault (docs/RULES.md, All codes).
 use Rattle.std.specs.Prelude.{ℕ, Bool, true, false, IsTrue, List, Result, Ok, Err, codes}
-use Rattle.lot_report.specs.Output.{HasFailed, NoneFailed, WritesMade}
+use Rattle.lot_io.specs.Writes.{HasFailed, NoneFailed, WritesMade}
 use Rattle.lot_report.specs.declared.fault.ReportFault.{ReportFault}
 use Rattle.lot_report.specs.declared.fault.ReportFault.TheVariants as report
 use Rattle.lot_report.specs.declared.fault.RowFault.{RowFault}

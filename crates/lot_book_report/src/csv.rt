@@ -7,7 +7,7 @@ ghost use Rattle.lot_book_report.specs.Csv.{AreGood, AreRecordsOf, ShowsCsv, Sho
 ghost use Rattle.lot_book_report.specs.Fault.{HasCause};
 ghost use Rattle.lot_book_report.specs.Show.{ReadsBook};
 ghost use Rattle.lot_report.specs.Fed.{text_of};
-ghost use Rattle.lot_report.specs.Output.{HasFailed, NoneFailed, writes_between};
+ghost use Rattle.lot_io.specs.Writes.{HasFailed, NoneFailed, writes_between};
 ghost use Rattle.lot_report.specs.Written.{WritesEach};
 ghost use Rattle.lot_rows.specs.Tables.{Tables};
 ghost use Rattle.lot_store.specs.Walk.{HasGiven, HasGivenRows};
@@ -22,7 +22,8 @@ mod holdings;
 use crate::fault::ShowFault;
 pub use gains::show_gains_csv;
 pub use holdings::show_holdings_csv;
-use lot_report::{CountedWrite, PrintFault, print_texts};
+use lot_io::CountedWrite;
+use lot_report::{PrintFault, print_texts};
 use lot_store::{StoreFault, Walk};
 use lot_walk::Place;
 use sqlite::Alter;

@@ -5,7 +5,8 @@ ghost use Rattle.hex.specs.Hex.{encode_lower};
 use arrayvec::ArrayString;
 use hex::encode_to_slice;
 use itoa::Buffer;
-use lot_report::{CountedWrite, PrintFault, print_texts};
+use lot_io::CountedWrite;
+use lot_report::{PrintFault, print_texts};
 
 /// The digest of a dump of a book.
 #[derive(Clone, Copy, Debug, PartialEq, Eq)]
@@ -21,7 +22,7 @@ const DIGITS: usize = 64;
 
 impl BookDigest {
     ghost use Rattle.lot_book_report.specs.Dump.{digest_line};
-    ghost use Rattle.lot_report.specs.Output.{HasFailed, NoneFailed};
+    ghost use Rattle.lot_io.specs.Writes.{HasFailed, NoneFailed};
     ghost use Rattle.lot_report.specs.Written.{WritesLine};
 
     /// Writes a line with the number of entries and the digest. Nothing is flushed.

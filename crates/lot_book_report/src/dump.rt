@@ -3,7 +3,7 @@ ghost use Rattle.std.specs.Prelude.{◌≡◌, ◌++◌, ℕ, Err, IfErr, IfOk, 
 ghost use Rattle.lot_book_report.specs.Dump.{HoldsOfPlacedBook, IsDigestOfTables, IsSomeDigest, ShowsBody, ShowsBodyOfTables, ShowsDump, ShowsDumpOfTables, ShowsSomeBody, ShowsSomeDump, digest_of, dump_head};
 ghost use Rattle.lot_book_report.specs.Fault.{HasCause};
 ghost use Rattle.lot_book_report.specs.Show.{HoldsOfTables, IsOfBook, ReadsBook};
-ghost use Rattle.lot_report.specs.Output.{HasFailed, NoneFailed, writes_between};
+ghost use Rattle.lot_io.specs.Writes.{HasFailed, NoneFailed, writes_between};
 ghost use Rattle.lot_report.specs.Written.{WritesLine};
 ghost use Rattle.lot_store.specs.Extent.{extent_of};
 ghost use Rattle.lot_stored.specs.Rows.{entry_rows};
@@ -15,7 +15,8 @@ use crate::heard::add_texts;
 use crate::journal::write_entries;
 use crate::unwritten::Unwritten;
 use itoa::Buffer;
-use lot_report::{CountedWrite, PrintFault, print_texts};
+use lot_io::CountedWrite;
+use lot_report::{PrintFault, print_texts};
 use lot_store::{Book, Extent, StoreFault};
 use sha2::{Digest, Sha256};
 use sqlite::Alter;

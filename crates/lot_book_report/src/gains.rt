@@ -1,11 +1,12 @@
 ghost use Rattle.lot_book_report.specs.Fault.{HasCause};
 ghost use Rattle.lot_book_report.specs.Gains.{ShowsAllSales, ShowsGains, ShowsSomeGains};
 ghost use Rattle.lot_book_report.specs.Show.{HoldsOfBook, HoldsOfTables, ReadsBook};
-ghost use Rattle.lot_report.specs.Output.{writes_between};
+ghost use Rattle.lot_io.specs.Writes.{writes_between};
 
 use crate::fault::ShowFault;
 use lot_base::Day;
-use lot_report::{CountedWrite, Gains};
+use lot_io::CountedWrite;
+use lot_report::Gains;
 use lot_store::{Book, StoreFault};
 use sqlite::Alter;
 use std::alloc::Global;

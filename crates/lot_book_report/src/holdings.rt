@@ -2,13 +2,14 @@ ghost use Rattle.std.specs.Prelude.{◌≡◌};
 ghost use Rattle.lot_book_report.specs.Fault.{HasCause};
 ghost use Rattle.lot_book_report.specs.Holdings.{ShowsAllHoldings, ShowsAllWith, ShowsHoldings, ShowsSomeHoldings, ShowsWith, valued_with};
 ghost use Rattle.lot_book_report.specs.Show.{HoldsOfBook, HoldsOfTables, ReadsBook};
-ghost use Rattle.lot_report.specs.Output.{writes_between};
+ghost use Rattle.lot_io.specs.Writes.{writes_between};
 
 use crate::fault::ShowFault;
 use crate::prices::DayPrices;
 use lot_base::Day;
 use lot_book::Holding;
-use lot_report::{CountedWrite, Holdings, Valuation, ValuedHolding};
+use lot_io::CountedWrite;
+use lot_report::{Holdings, Valuation, ValuedHolding};
 use lot_store::{Book, StoreFault};
 use sqlite::Alter;
 use std::alloc::Global;

@@ -2,11 +2,12 @@ ghost use Rattle.lot_stored.specs.Rows.{entry_rows};
 ghost use Rattle.lot_book_report.specs.Fault.{HasCause};
 ghost use Rattle.lot_book_report.specs.Journal.{HearsMore, ShowsAllEntries, ShowsAllHeard, ShowsHeard, ShowsJournal, ShowsSomeHeard, ShowsSomeJournal};
 ghost use Rattle.lot_book_report.specs.Show.{HoldsOfBook, HoldsOfTables, ReadsBook};
-ghost use Rattle.lot_report.specs.Output.{writes_between};
+ghost use Rattle.lot_io.specs.Writes.{writes_between};
 
 use crate::fault::ShowFault;
 use crate::heard::{Hear, Nobody};
-use lot_report::{CountedWrite, Journal};
+use lot_io::CountedWrite;
+use lot_report::Journal;
 use lot_store::{Book, StoreFault};
 use sqlite::Alter;
 

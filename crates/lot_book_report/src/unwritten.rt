@@ -1,6 +1,6 @@
 ghost use Rattle.std.specs.Prelude.{None};
 
-use lot_report::CountedWrite;
+use lot_io::CountedWrite;
 use std::io;
 
 /// A writer that takes all and writes it nowhere.

@@ -18,13 +18,14 @@ use Rattle.lot_book.specs.Facts.{Entry, Facts}
 use Rattle.lot_book.specs.Holding.{ListsHoldings}
 use Rattle.lot_book.specs.Judged.{JudgesAll, numbered}
 use Rattle.lot_view.specs.View.{known}
-use Rattle.lot_report.specs.Output.{HasFailed, NoneFailed, WriteCalls, WritesMade}
+use Rattle.lot_io.specs.Writes.{HasFailed, NoneFailed, WriteCalls, WritesMade}
 use Rattle.lot_report.specs.Printed.{replies}
 use Rattle.lot_report.specs.Written.{AppendsPrefix}
 use Rattle.lot_report.specs.Holdings.{WritesReport, unvalued}
 use Rattle.lot_stream.specs.FaultLine.{fault_line}
 use Rattle.lot_check.specs.Key.{key_of}
-use Rattle.lot_stream.specs.Input.{CallsMade, EndsFor, EndsWell, longest_input}
+use Rattle.lot_io.specs.Reads.{ReadsMade}
+use Rattle.lot_stream.specs.Input.{EndsFor, EndsWell, longest_input}
 use Rattle.lot_stream.specs.declared.input.SlurpFault.{SlurpFault}
 use Rattle.lot_stream.specs.Status.{Ends, EndsIfFailed, code_of, status_of, fault_of_input, fault_of_report, fault_of_text}
 use Rattle.lot_check.specs.Answer.{IsBegun, IsJudged, IsOutcome, IsOutput, IsStoppedReport, RunsOut, RunsOutInReport, status_of_replies}
@@ -148,7 +149,7 @@ report_stopped input commands view rows status calls old mid new fault (Err e) s
 -- ---- What a reader has.
 
 -- it isn't read to its end
-pub unheard : {T : Type 0} (all : CallsMade) (known : Option (List ℕ)) (calls : Option WriteCalls) (held : Option (List ℕ)) (fault : SlurpFault) (result : Result Status Fault)
+pub unheard : {T : Type 0} (all : ReadsMade) (known : Option (List ℕ)) (calls : Option WriteCalls) (held : Option (List ℕ)) (fault : SlurpFault) (result : Result Status Fault)
     → IsErrAnd result (λ e. e ≡ fault_of_input fault) → EndsFor all fault
     → (IsErrOf {T = T} (Err fault) SlurpFault.TooLong → IfSome known (λ input. longest_input < length input))
     → IfSome known (λ input. Answers all input (record { before = calls; after = calls }) held held result)
@@ -164,7 +165,7 @@ unheard {T} all (Some input) calls held fault (Err e) is ends long =
     at SlurpFault.Memory ends long = (ends, Appends-nil held)
 
 -- it is
-pub heard : (all : CallsMade) (known : Option (List ℕ)) (calls : WritesMade) (old new : Option (List ℕ)) (items text : List ℕ) (count : ℕ) (result : Result Status Fault)
+pub heard : (all : ReadsMade) (known : Option (List ℕ)) (calls : WritesMade) (old new : Option (List ℕ)) (items text : List ℕ) (count : ℕ) (result : Result Status Fault)
     → IfSome known (λ input. items ≡ input) → text ≡ items → length text ≡ count → EndsWell all count → Reaches text calls old new result
     → IfSome known (λ input. Answers all input calls old new result)
 heard all None calls old new items text count result every same long ends reached = tt
@@ -177,7 +178,7 @@ heard all (Some input) calls old new items text count result every same long end
 nothing_behind : (old mid new : Option (List ℕ)) (text : List ℕ) → Appends old mid text → Appends mid new [] → Appends old new text
 nothing_behind old mid new text before nothing = subst (Appends old new) (append-nil text) (Appends-trans old mid new text [] before nothing)
 
-module _ (all : CallsMade) (input : List ℕ) where
+module _ (all : ReadsMade) (input : List ℕ) where
   -- a report that was stopped is an output
   stopped_output : (text : List ℕ) (status : ℕ) → EndsWell all (length input) → IsStoppedReport input text status → IsOutput all input text status
   stopped_output text status ended (inl broken) = inr (ended, inl (inr (inr broken)))
@@ -298,7 +299,7 @@ module _ (all : CallsMade) (input : List ℕ) where
         outcome_of_text old mid new reached concluded ended reaches concludes still ends failed
 
 -- where the bytes of the reader are known
-pub outcome_of_input : (all : CallsMade) (first then between last : Option WriteCalls) (known : Option (List ℕ)) (old mid new after : Option (List ℕ)) (reached : Result Status Fault)
+pub outcome_of_input : (all : ReadsMade) (first then between last : Option WriteCalls) (known : Option (List ℕ)) (old mid new after : Option (List ℕ)) (reached : Result Status Fault)
     (concluded : Result Status PrintFault) (end : Status) (code : ℕ)
     → IfSome known (λ input. Answers all input (record { before = first; after = then }) old mid reached) → Concludes mid new reached concluded
     → OnOk concluded (NoneFailed then between) → Keeps new after → Ends concluded last end → EndsIfFailed (record { before = between; after = last }) end

@@ -2,7 +2,7 @@
 use Rattle.std.proofs.Common.{◌≡◌, ◌⊎◌, inl, inr, refl}
 use Rattle.std.specs.Prelude.{Option, Result, Ok, Err, IsErrAnd, IsErrOf}
 use Rattle.lot_read.specs.declared.fault.TextFault.{TextFault}
-use Rattle.lot_report.specs.Output.{HasFailed, WriteCalls}
+use Rattle.lot_io.specs.Writes.{HasFailed, WriteCalls}
 use Rattle.lot_report.specs.declared.fault.ReportFault.{ReportFault}
 use Rattle.lot_stream.specs.Status.{fault_of_input, fault_of_report, fault_of_text}
 use Rattle.lot_stream.specs.declared.fault.Fault.{Fault}

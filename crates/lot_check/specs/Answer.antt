@@ -18,9 +18,10 @@ use Rattle.lot_report.specs.Printed.{replies}
 use Rattle.lot_stream.specs.FaultLine.{fault_line}
 use Rattle.lot_check.specs.Key.{key_of}
 use Rattle.lot_report.specs.Holdings.{IsReport, IsReportToFault, AreFirstLines, AreKeptLines, unvalued}
-use Rattle.lot_report.specs.Output.{AllFlushed, HasFailed, IsFlushed, WritesMade}
+use Rattle.lot_io.specs.Writes.{AllFlushed, HasFailed, IsFlushed, WritesMade}
 use Rattle.lot_report.specs.Written.{IsProperPrefixOf}
-use Rattle.lot_stream.specs.Input.{CallsMade, EndsFor, EndsWell, longest_input}
+use Rattle.lot_io.specs.Reads.{ReadsMade}
+use Rattle.lot_stream.specs.Input.{EndsFor, EndsWell, longest_input}
 use Rattle.lot_stream.specs.declared.input.SlurpFault.TheVariants as slurp
 use Rattle.lot_stream.specs.Status.{code_of, status_after}
 use Rattle.lot_book.specs.Recorded.{facts_in}
@@ -147,7 +148,7 @@ RunsOut input kept last =
 
 -- Why the reader wasn't read to its end, and the one line that says so: it can't be read, it is too long, or memory ended
 -- before its end. What its calls came to decides this.
-abbrev pub IsUnread : CallsMade → List ℕ → List ℕ → ℕ → Type 0
+abbrev pub IsUnread : ReadsMade → List ℕ → List ℕ → ℕ → Type 0
 IsUnread all input text status =
     (EndsFor all slurp.Read × (text ≡ fault_line Fault.Read) × (status ≡ 3))
     ⊎ (EndsFor all slurp.TooLong × IsTooLong input text status)
@@ -159,7 +160,7 @@ IsOutOfMemory input text status = (kept : List ℕ) × (last : List ℕ) × Runs
 
 -- What is written, with the status. Where the reader was read to its end, no call of it failed, and it gave as many bytes as
 -- the input has, it is the answer, or what is written where memory ended. Else it is the line that says why it wasn't read.
-abbrev pub IsOutput : CallsMade → List ℕ → List ℕ → ℕ → Type 0
+abbrev pub IsOutput : ReadsMade → List ℕ → List ℕ → ℕ → Type 0
 IsOutput all input text status =
     IsUnread all input text status
     ⊎ (EndsWell all (length input) × (IsTextAnswer input text status ⊎ IsOutOfMemory input text status))
@@ -173,7 +174,7 @@ IsStoppedReport input text status =
 
 -- An output was written and flushed, and no call of the writer failed. Where the report was stopped, this alone is said: all
 -- is flushed. Nothing is then said of the calls before the line that reports the stop.
-abbrev pub IsWritten : CallsMade → WritesMade → List ℕ → List ℕ → ℕ → Type 0
+abbrev pub IsWritten : ReadsMade → WritesMade → List ℕ → List ℕ → ℕ → Type 0
 IsWritten all calls input written status =
     (IsOutput all input written status × AllFlushed calls)
     ⊎ (EndsWell all (length input) × IsStoppedReport input written status × IsFlushed calls.after)
@@ -186,16 +187,16 @@ abbrev pub IsPart : List ℕ → List ℕ → Type 0
 IsPart input text = AreReplies input text ⊎ AreLines input text ⊎ ((status : ℕ) × IsTextAnswer input text status)
 
 -- what was being written when the writer failed: an answer to what was read to its end, or an output
-abbrev pub IsBegun : CallsMade → List ℕ → List ℕ → Type 0
+abbrev pub IsBegun : ReadsMade → List ℕ → List ℕ → Type 0
 IsBegun all input text =
     (EndsWell all (length input) × IsPart input text) ⊎ ((status : ℕ) × IsOutput all input text status)
 
 -- a prefix of that, but not all of it; nothing more
-abbrev pub IsCut : CallsMade → List ℕ → List ℕ → ℕ → Type 0
+abbrev pub IsCut : ReadsMade → List ℕ → List ℕ → ℕ → Type 0
 IsCut all input written status = (text : List ℕ) × IsBegun all input text × IsProperPrefixOf written text × (status ≡ 4)
 
 -- all was written, and the writer failed to flush it
-abbrev pub IsUnflushed : CallsMade → List ℕ → List ℕ → ℕ → Type 0
+abbrev pub IsUnflushed : ReadsMade → List ℕ → List ℕ → ℕ → Type 0
 IsUnflushed all input written status = ((before : ℕ) × IsOutput all input written before) × (status ≡ 4)
 
 -- ---- The theorem.
@@ -206,7 +207,7 @@ IsUnflushed all input written status = ((before : ℕ) × IsOutput all input wri
 -- written where the answer was settled before memory ended. All of it is flushed, and no call of the writer failed, except
 -- where the report was stopped. Where a call of the writer failed, the status is 4: a prefix of that is written, but not all
 -- of it, or all of it is written and not flushed.
-abbrev pub IsOutcome : CallsMade → WritesMade → List ℕ → List ℕ → ℕ → Type 0
+abbrev pub IsOutcome : ReadsMade → WritesMade → List ℕ → List ℕ → ℕ → Type 0
 IsOutcome all calls input written status =
     IsWritten all calls input written status
     ⊎ ((IsCut all input written status ⊎ IsUnflushed all input written status) × HasFailed calls.after)

@@ -17,13 +17,14 @@ use Rattle.lot_book.specs.Judged.{JudgesAll, numbered}
 use Rattle.lot_book.specs.Openings.{DecidesByOpening, FactsWithOpenings, HaveSameOpenings, IsAcceptedWith, facts_with_openings, with_listed}
 use Rattle.lot_book.specs.Step.{Refuse, Repeat}
 use Rattle.lot_view.specs.View.{known, known_with_openings}
-use Rattle.lot_report.specs.Output.{NoneFailed, WritesMade}
+use Rattle.lot_io.specs.Writes.{NoneFailed, WritesMade}
 use Rattle.lot_report.specs.Printed.{reply, replies}
 use Rattle.lot_report.specs.Holdings.{IsReportToFault, unvalued}
 use Rattle.lot_report.specs.Written.{AppendsPrefix}
 use Rattle.lot_stream.specs.FaultLine.{fault_line}
 use Rattle.lot_check.specs.Key.{key_of}
-use Rattle.lot_stream.specs.Input.{CallsMade, EndsFor, EndsWell, longest_input}
+use Rattle.lot_io.specs.Reads.{ReadsMade}
+use Rattle.lot_stream.specs.Input.{EndsFor, EndsWell, longest_input}
 use Rattle.lot_stream.specs.declared.input.SlurpFault.TheVariants as slurp
 use Rattle.lot_stream.specs.Status.{code_of, status_of}
 use Rattle.lot_check.specs.Answer.{status_of_replies, status_of_verdict, IsPart, IsWhole, IsJudged, JudgingMayLackMemory, RunsOut, RunsOutInReport}
@@ -122,7 +123,7 @@ Reaches input calls old new (Err Fault.Memory) = StopsForMemory input calls Faul
 Reaches input calls old new (Err (Fault.MemoryAt number)) = StopsForMemory input calls (Fault.MemoryAt number) old new
 
 -- nothing is written where the reader isn't read to its end, and its calls have the cause of the fault
-abbrev pub IsUnheard : CallsMade → List ℕ → Option (List ℕ) → Option (List ℕ) → Result Status Fault → Type 0
+abbrev pub IsUnheard : ReadsMade → List ℕ → Option (List ℕ) → Option (List ℕ) → Result Status Fault → Type 0
 IsUnheard all input old new (Ok status) = ⊥
 IsUnheard all input old new (Err Fault.Read) = EndsFor all slurp.Read × Appends old new []
 IsUnheard all input old new (Err Fault.TooLong) =
@@ -134,7 +135,7 @@ IsUnheard all input old new (Err Fault.Write) = ⊥
 IsUnheard all input old new (Err (Fault.MemoryAt number)) = ⊥
 
 -- the same of what a reader has, which is read to its end, or isn't
-abbrev pub Answers : CallsMade → List ℕ → WritesMade → Option (List ℕ) → Option (List ℕ) → Result Status Fault → Type 0
+abbrev pub Answers : ReadsMade → List ℕ → WritesMade → Option (List ℕ) → Option (List ℕ) → Result Status Fault → Type 0
 Answers all input calls old new result =
     (IsUnheard all input old new result × NoneFailed calls.before calls.after)
     ⊎ (EndsWell all (length input) × Reaches input calls old new result)

@@ -6,19 +6,21 @@ ghost use Rattle.std.specs.Prelude.{◌≡◌, ◌⊎◌, ◌≤◌, ℕ, List, 
 ghost use Rattle.std.specs.Io.KnownBytes.{Appends};
 ghost use Rattle.lot_stream.specs.Status.{IsStatus};
 ghost use Rattle.lot_check.specs.Answer.{IsOutcome, JudgingMayLackMemory, status_of_verdict};
-ghost use Rattle.lot_stream.specs.Input.{longest_input, reads_between};
+ghost use Rattle.lot_io.specs.Reads.{reads_between};
+ghost use Rattle.lot_stream.specs.Input.{longest_input};
 ghost use Rattle.lot_check.specs.Way.{Answers, Concludes, JudgesKnown, Reaches, Replies, RunsCommands};
-ghost use Rattle.lot_report.specs.Output.{HasFailed, NoneFailed, writes_between};
+ghost use Rattle.lot_io.specs.Writes.{HasFailed, NoneFailed, writes_between};
 ghost use Rattle.lot_view.specs.View.{known_with_openings};
 
 mod report;
 
 use lot_command::Command;
 use lot_completion::{Watch, untaken};
+use lot_io::{CountedRead, CountedWrite};
 use lot_ledger::{Edition, Outcome, Stop, Verdict, View, decide};
 use lot_read::read;
-use lot_report::{CountedWrite, PrintFault, print_reply};
-use lot_stream::{CountedRead, Fault, Status, finish, print_fault, slurp};
+use lot_report::{PrintFault, print_reply};
+use lot_stream::{Fault, Status, finish, print_fault, slurp};
 use report::print_holdings;
 use std::alloc::{AllocError, Global};
 

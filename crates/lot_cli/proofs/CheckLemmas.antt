@@ -7,7 +7,7 @@ use Rattle.lot_command.specs.declared.key.Key.{Key}
 use Rattle.lot_rounding.specs.declared.asked.Asked.{Asked}
 use Rattle.lot_rounding.specs.declared.rounding.Rounding.{Rounding}
 use Rattle.lot_stored.specs.StandFor.{Stands}
-use Rattle.lot_report.specs.Output.{IsFlushed, WriteCalls, WritesMade}
+use Rattle.lot_io.specs.Writes.{IsFlushed, WriteCalls, WritesMade}
 use Rattle.lot_args.specs.declared.action.Format.TheVariants.{Text}
 use Rattle.lot_cli.specs.Check.{RunsCheck, ShowsBehind, status_behind}
 use Rattle.lot_cli.specs.Reports.{ShowsBook}

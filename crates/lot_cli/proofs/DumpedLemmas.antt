@@ -18,7 +18,7 @@ use Rattle.lot_dump.specs.declared.end.End.{End}
 use Rattle.lot_dump.specs.Form.{IsEnd, IsHead, end_front, end_text, head_front, head_text, heading_front}
 use Rattle.lot_input.specs.Input.{Reading}
 use Rattle.lot_parts.specs.Dump.{IsUnchanged, dump_text as text_of_dump, part_text, text_above_end}
-use Rattle.lot_report.specs.Output.{WritesMade}
+use Rattle.lot_io.specs.Writes.{WritesMade}
 use Rattle.lot_report.specs.Printed.{line}
 use Rattle.lot_restore.proofs.DumpOfBookLemmas.{gives_back}
 use Rattle.lot_restore.proofs.TakenLemmas.{as_many, can_be_dumped, given_back, head_fits, may_end}

@@ -7,7 +7,7 @@ use Rattle.std.specs.Prelude.{Err, IsErr, Ok, OnErr, OnOk, Option, Result}
 use Rattle.lot_stream.specs.Status.{code_of}
 use Rattle.lot_stream.specs.declared.status.Status.{Status}
 use Rattle.lot_stream.specs.declared.status.Status.TheVariants.{Stopped}
-use Rattle.lot_report.specs.Output.{AllFlushed, HasFailed, NoneFailed, WriteCalls, WritesMade}
+use Rattle.lot_io.specs.Writes.{AllFlushed, HasFailed, NoneFailed, WriteCalls, WritesMade}
 use Rattle.lot_report.specs.Written.{WritesLine}
 use Rattle.lot_report.specs.declared.line.PrintFault.{PrintFault}
 use Rattle.lot_report.specs.declared.line.PrintFault.TheVariants.{Memory, Write}

@@ -2,7 +2,7 @@
 use Rattle.std.proofs.Common.{◌≡◌, ◌≢◌, inl, inr, ℕ, List, [], IsTrue, Option}
 use Rattle.sqlite.specs.State.{HasCleanDisk, KeepsCommit, State, Survives}
 use Rattle.lot_stored.specs.StandFor.{Left, Stands}
-use Rattle.lot_report.specs.Output.{WritesMade}
+use Rattle.lot_io.specs.Writes.{WritesMade}
 use Rattle.lot_cli.specs.Says.{Halts, Succeeds, Told}
 use Rattle.lot_cli.specs.Init.{Makes, ready_line}
 use Rattle.lot_cli.specs.declared.halt.Halt.TheVariants as halt

@@ -6,7 +6,7 @@ use Rattle.lot_args.specs.declared.action.Keeping.TheVariants.{Each}
 use Rattle.lot_rounding.specs.declared.asked.Asked.{Asked}
 use Rattle.lot_rounding.specs.declared.rounding.Rounding.{Rounding}
 use Rattle.lot_command.specs.declared.key.Key.{Key}
-use Rattle.lot_report.specs.Output.{WritesMade}
+use Rattle.lot_io.specs.Writes.{WritesMade}
 use Rattle.lot_input.specs.Input.{Gives, Reading}
 use Rattle.lot_input.specs.Text.{IsFaultyText, RowMeans}
 use Rattle.lot_input.specs.declared.fault.InputFault.{InputFault}

@@ -3,7 +3,7 @@ use Rattle.std.proofs.Common.{inl, inr, ℕ, List, Option}
 use Rattle.sqlite.specs.State.{HasCleanDisk, KeepsCommit, State, Survives}
 use Rattle.lot_book.specs.Facts.{Entry}
 use Rattle.lot_stored.specs.StandFor.{Stands}
-use Rattle.lot_report.specs.Output.{WritesMade}
+use Rattle.lot_io.specs.Writes.{WritesMade}
 use Rattle.lot_migrate.specs.First.{StandsFirst}
 use Rattle.lot_migrate.specs.Migrate.{IsOfFirst, IsOfSecond, LeavesMigrated, Migrates, NotMigrated}
 use Rattle.lot_migrate.specs.declared.fault.MigrateFault.{MigrateFault}

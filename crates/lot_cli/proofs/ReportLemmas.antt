@@ -9,7 +9,7 @@ use Rattle.lot_book.specs.Facts.{Entry}
 use Rattle.lot_page.specs.Cursor.{Stays}
 use Rattle.lot_rows.specs.Tables.{Has, Tables}
 use Rattle.lot_cli.specs.Reports.{Concludes, Reports, ShowsAllRows, ShowsBook, ShowsDigest, ShowsReport, ShowsSome, digest_text, verified_line}
-use Rattle.lot_report.specs.Output.{HasFailed, WriteCalls, WritesMade}
+use Rattle.lot_io.specs.Writes.{HasFailed, WriteCalls, WritesMade}
 use Rattle.lot_report.specs.Report.{report_fault}
 use Rattle.lot_report.specs.Written.{AppendsPrefix, WritesLine}
 use Rattle.lot_report.specs.declared.fault.RowFault.TheVariants.{Report as OfReport}

@@ -18,7 +18,7 @@ use Rattle.lot_book.specs.Judged.{JudgesAll, JudgesOn}
 use Rattle.lot_book.specs.declared.verdict.Verdict.{Verdict}
 use Rattle.lot_book.specs.declared.verdict.Verdict.TheVariants.{Accepted, Refused, Repeated}
 use Rattle.lot_laws.proofs.JudgedLaws.{judged_alike, judges_more}
-use Rattle.lot_report.specs.Output.{AllFlushed, IsFlushed, WritesMade}
+use Rattle.lot_io.specs.Writes.{AllFlushed, IsFlushed, WritesMade}
 use Rattle.lot_report.specs.Printed.{replies, reply}
 use Rattle.lot_report.specs.Written.{IsPrefixOf}
 use Rattle.lot_rounding.specs.declared.asked.Asked.{Asked}

@@ -8,7 +8,7 @@ use Rattle.lot_page.specs.Cursor.{Stays}
 use Rattle.lot_rows.proofs.StateLemmas.{early}
 use Rattle.lot_rows.specs.Tables.{Has, Tables}
 use Rattle.lot_stored.specs.StandFor.{Stands}
-use Rattle.lot_report.specs.Output.{WritesMade}
+use Rattle.lot_io.specs.Writes.{WritesMade}
 use Rattle.lot_cli.proofs.ReportLemmas.{shows_after}
 use Rattle.lot_cli.specs.Reports.{ShowsBook, verified_line}
 use Rattle.lot_cli.specs.Says.{Halts, Succeeds, Told}

@@ -11,7 +11,7 @@ use Rattle.lot_rounding.specs.declared.asked.Asked.{Asked}
 use Rattle.lot_rounding.specs.declared.rounding.Rounding.{Rounding}
 use Rattle.lot_stored.specs.StandFor.{Stands}
 use Rattle.lot_table.specs.Shape.{schema_of}
-use Rattle.lot_report.specs.Output.{IsFlushed, WriteCalls, WritesMade}
+use Rattle.lot_io.specs.Writes.{IsFlushed, WriteCalls, WritesMade}
 use Rattle.lot_input.specs.Input.{Gives, GivesNone, Reading}
 use Rattle.lot_input.specs.Text.{IsFaultyText, TextMeans}
 use Rattle.lot_input.specs.declared.fault.InputFault.{InputFault}

@@ -4,7 +4,7 @@ use Rattle.sqlite.specs.Store.{Ghosts}
 use Rattle.lot_compare.specs.Books.{HoldsOfBoth, ReadsNew, ReadsOld, ShowsDifferences, ShowsSomeLines}
 use Rattle.lot_compare.specs.Fault.{HasCause, fault_name, is_of_writer}
 use Rattle.lot_compare.specs.declared.fault.CompareFault.{CompareFault}
-use Rattle.lot_report.specs.Output.{WriteCalls, WritesMade}
+use Rattle.lot_io.specs.Writes.{WriteCalls, WritesMade}
 use Rattle.lot_report.specs.Printed.{line}
 use Rattle.lot_store.specs.declared.book.Book.{Book}
 use Rattle.lot_stream.specs.Status.{code_of}

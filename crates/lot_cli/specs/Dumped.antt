@@ -6,7 +6,7 @@ use Rattle.lot_book_report.specs.Dump.{digest_of}
 use Rattle.lot_dump.specs.declared.end.End.{End}
 use Rattle.lot_input.specs.Input.{Reading}
 use Rattle.lot_parts.specs.Dump.{Dump}
-use Rattle.lot_report.specs.Output.{WritesMade}
+use Rattle.lot_io.specs.Writes.{WritesMade}
 use Rattle.lot_restore.specs.DumpOfBook.{IsGivenBack, MayEndSo, dump_of_book}
 use Rattle.lot_restore.specs.Restoring.{Terms}
 use Rattle.lot_restore.specs.declared.fault.RestoreFault.{RestoreFault}

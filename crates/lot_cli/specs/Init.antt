@@ -2,7 +2,7 @@
 use Rattle.std.specs.Prelude.{◌≡◌, ◌≢◌, ◌⊎◌, ℕ, List, [], IsTrue, Option, codes}
 use Rattle.sqlite.specs.State.{HasCleanDisk, KeepsCommit, State, Survives}
 use Rattle.lot_stored.specs.StandFor.{Left, Stands}
-use Rattle.lot_report.specs.Output.{WritesMade}
+use Rattle.lot_io.specs.Writes.{WritesMade}
 use Rattle.lot_report.specs.Printed.{line}
 use Rattle.lot_cli.specs.Says.{Halts, Succeeds, Told}
 use Rattle.lot_cli.specs.declared.halt.Halt.TheVariants as halt

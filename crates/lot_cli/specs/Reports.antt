@@ -8,7 +8,7 @@ use Rattle.lot_stream.specs.declared.status.Status.TheVariants.{Accepted, Stoppe
 use Rattle.lot_stored.specs.Rows.{entry_rows}
 use Rattle.lot_stored.specs.StandFor.{Stands}
 use Rattle.lot_page.specs.Cursor.{Stays}
-use Rattle.lot_report.specs.Output.{AllFlushed, HasFailed, WriteCalls, WritesMade}
+use Rattle.lot_io.specs.Writes.{AllFlushed, HasFailed, WriteCalls, WritesMade}
 use Rattle.lot_report.specs.Printed.{line}
 use Rattle.lot_rows.specs.Tables.{Has, Tables}
 use Rattle.lot_cli.specs.Runs.{IsLeft}

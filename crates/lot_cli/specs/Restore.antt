@@ -3,7 +3,7 @@ use Rattle.std.specs.Prelude.{◌≡◌, ◌≢◌, ◌⊎◌, List, ℕ, [], No
 use Rattle.sqlite.specs.State.{HasCleanDisk, State, Survives}
 use Rattle.lot_args.specs.declared.action.Restore.{Restore}
 use Rattle.lot_input.specs.Input.{Reading}
-use Rattle.lot_report.specs.Output.{NoneFailed, WriteCalls, WritesMade}
+use Rattle.lot_io.specs.Writes.{NoneFailed, WriteCalls, WritesMade}
 use Rattle.lot_report.specs.Printed.{line}
 use Rattle.lot_restore.specs.Restoring.{Fails, MayMake, RestoresDump, Terms}
 use Rattle.lot_restore.specs.Stopped.{ReadsIn, SaysSome}

@@ -29,7 +29,7 @@ use Rattle.lot_cli.specs.AllOrNone.{that_count}
 use Rattle.lot_cli.specs.Headline.{AllOrNoneLeaves}
 use Rattle.lot_cli.specs.Reopen.{LeavesOneOf}
 use Rattle.lot_cli.specs.Says.{Halts, Told}
-use Rattle.lot_report.specs.Output.{IsFlushed, WritesMade}
+use Rattle.lot_io.specs.Writes.{IsFlushed, WritesMade}
 use Rattle.lot_report.specs.Written.{IsPrefixOf}
 use Rattle.lot_cli.specs.declared.halt.Halt.TheVariants as halt
 use Rattle.lot_store.specs.Create.{IsHandedBack, IsTaken, TellsBook, TellsOf}

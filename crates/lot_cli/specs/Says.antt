@@ -4,7 +4,7 @@ use Rattle.std.specs.Io.KnownBytes.{Appends}
 use Rattle.lot_stream.specs.Status.{Ends, EndsIfFailed, code_of}
 use Rattle.lot_stream.specs.declared.status.Status.{Status}
 use Rattle.lot_stream.specs.declared.status.Status.TheVariants.{Accepted, Stopped}
-use Rattle.lot_report.specs.Output.{AllFlushed, HasFailed, WritesMade}
+use Rattle.lot_io.specs.Writes.{AllFlushed, HasFailed, WritesMade}
 use Rattle.lot_report.specs.declared.line.PrintFault.{PrintFault}
 use Rattle.lot_cli.specs.HaltLine.{halt_line, status_of_halt}
 use Rattle.lot_cli.specs.declared.halt.Halt.{Halt}

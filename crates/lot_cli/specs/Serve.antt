@@ -8,7 +8,7 @@ use Rattle.lot_book.specs.Facts.{Entry}
 use Rattle.lot_migrate.specs.First.{StandsFirst}
 use Rattle.lot_migrate.specs.Migrate.{IsOfFirst, IsOfSecond, LeavesMigrated, Migrates, NotMigrated}
 use Rattle.lot_migrate.specs.declared.fault.MigrateFault.{MigrateFault}
-use Rattle.lot_report.specs.Output.{WritesMade}
+use Rattle.lot_io.specs.Writes.{WritesMade}
 use Rattle.lot_report.specs.Printed.{line}
 use Rattle.lot_cli.specs.Check.{Checks}
 use Rattle.lot_cli.specs.Init.{Makes}

@@ -8,7 +8,7 @@ use Rattle.lot_input.specs.Input.{Gives, GivesNone, Reading}
 use Rattle.lot_input.specs.declared.fault.InputFault.{InputFault}
 use Rattle.lot_input.specs.declared.fault.InputFault.TheVariants.{Memory}
 use Rattle.lot_profile.specs.declared.profile.Profile.{Profile}
-use Rattle.lot_report.specs.Output.{WritesMade}
+use Rattle.lot_io.specs.Writes.{WritesMade}
 use Rattle.lot_cli.specs.Says.{Halts, Succeeds, Told}
 use Rattle.lot_cli.specs.declared.halt.Halt.TheVariants as halt
 

@@ -4,9 +4,9 @@ ghost use Rattle.lot_cli.specs.Init.{Makes};
 ghost use Rattle.lot_cli.specs.Serve.{EndsWith, ReadsNothing, Serves};
 ghost use Rattle.sqlite.specs.Held.{state};
 ghost use Rattle.sqlite.specs.Tree.{Trees};
-ghost use Rattle.lot_stream.specs.Input.{reads_between};
+ghost use Rattle.lot_io.specs.Reads.{reads_between};
 ghost use Rattle.lot_cli.specs.Says.{told};
-ghost use Rattle.lot_report.specs.Output.{writes_between};
+ghost use Rattle.lot_io.specs.Writes.{writes_between};
 ghost use Rattle.lot_input.specs.Input.{reading_between};
 
 use crate::crumbs::check_with;
@@ -23,10 +23,11 @@ use lot_atomic::Look;
 use lot_check::check;
 use lot_completion::Watch;
 use lot_export::Aside;
+use lot_io::{CountedRead, CountedWrite};
 use lot_migrate::Progress;
-use lot_report::{CountedWrite, print_texts};
+use lot_report::print_texts;
 use lot_store::{HandedBack, create};
-use lot_stream::{CountedRead, Status};
+use lot_stream::Status;
 use sqlite::{Alter, Connection};
 use std::alloc::Global;
 

@@ -14,9 +14,9 @@ ghost use Rattle.lot_input.specs.Text.{IsFaultyText, TextMeans};
 ghost use Rattle.lot_store.specs.declared.book.Condition.TheVariants.{Ready};
 ghost use Rattle.sqlite.specs.Held.{state};
 ghost use Rattle.sqlite.specs.State.{HasCleanDisk, Survives};
-ghost use Rattle.lot_stream.specs.Input.{reads_between};
+ghost use Rattle.lot_io.specs.Reads.{reads_between};
 ghost use Rattle.lot_cli.specs.Says.{told};
-ghost use Rattle.lot_report.specs.Output.{writes_between};
+ghost use Rattle.lot_io.specs.Writes.{writes_between};
 
 use crate::action::Served;
 use crate::halt::Halt;
@@ -26,10 +26,9 @@ use lot_args::{Batch, Format};
 use lot_completion::Watch;
 use lot_import::Numbered;
 use lot_input::{InputFault, keyed_text};
-use lot_report::CountedWrite;
+use lot_io::{CountedRead, CountedWrite};
 use lot_rounding::Rounding;
 use lot_store::{Book, Ending, HandedBack, RunEnd, create};
-use lot_stream::CountedRead;
 use sqlite::{Alter, Connection};
 use std::alloc::Global;
 

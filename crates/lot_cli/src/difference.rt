@@ -3,11 +3,12 @@ ghost use Rattle.lot_stream.specs.Status.{IsStatus};
 ghost use Rattle.lot_stream.specs.declared.status.Status.TheVariants.{Stopped};
 ghost use Rattle.lot_cli.specs.Differ.{EndsCompared, TellsDifferences, compare_line};
 ghost use Rattle.lot_cli.specs.Says.{Says};
-ghost use Rattle.lot_report.specs.Output.{writes_between};
+ghost use Rattle.lot_io.specs.Writes.{writes_between};
 
 use crate::run::tell;
 use lot_compare::{CompareFault, compare};
-use lot_report::{CountedWrite, print_texts};
+use lot_io::CountedWrite;
+use lot_report::print_texts;
 use lot_store::Book;
 use lot_stream::Status;
 use sqlite::Alter;

@@ -1,5 +1,5 @@
 ghost use Rattle.std.specs.Prelude.{◌≡◌, IfErr, OnErr, OnOk};
-ghost use Rattle.lot_report.specs.Output.{HasFailed, NoneFailed};
+ghost use Rattle.lot_io.specs.Writes.{HasFailed, NoneFailed};
 ghost use Rattle.lot_report.specs.Written.{WritesLine};
 ghost use Rattle.lot_cli.specs.HaltLine.{
   adopt_name,
@@ -12,8 +12,9 @@ ghost use Rattle.lot_cli.specs.HaltLine.{
 
 use crate::unrestored::{print_restore_fault, status_of_restore};
 use lot_input::{InputFault, print_input_fault};
+use lot_io::CountedWrite;
 use lot_migrate::MigrateFault;
-use lot_report::{CountedWrite, PrintFault, print_texts};
+use lot_report::{PrintFault, print_texts};
 use lot_restore::RestoreFault;
 use lot_store::{AdoptFault, CreateFault, StoreFault};
 use lot_stream::Status;

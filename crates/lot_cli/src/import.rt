@@ -2,9 +2,9 @@ ghost use Rattle.std.specs.Prelude.{◌≡◌, None, false, option_copied};
 ghost use Rattle.lot_stream.specs.Status.{IsStatus};
 ghost use Rattle.lot_cli.specs.Runs.{Imports, ImportsBy, decimals_of};
 ghost use Rattle.sqlite.specs.Held.{state};
-ghost use Rattle.lot_stream.specs.Input.{reads_between};
+ghost use Rattle.lot_io.specs.Reads.{reads_between};
 ghost use Rattle.lot_cli.specs.Says.{told};
-ghost use Rattle.lot_report.specs.Output.{writes_between};
+ghost use Rattle.lot_io.specs.Writes.{writes_between};
 ghost use Rattle.lot_input.specs.Input.{reading_between};
 
 use crate::action::Served;
@@ -16,9 +16,8 @@ use lot_completion::Watch;
 use lot_export::Aside;
 use lot_import::Numbered;
 use lot_input::{keyed_export, keyed_rows};
-use lot_report::CountedWrite;
+use lot_io::{CountedRead, CountedWrite};
 use lot_rounding::{Decimals, Rounding};
-use lot_stream::CountedRead;
 use sqlite::{Alter, Connection};
 use std::alloc::Global;
 

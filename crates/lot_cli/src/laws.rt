@@ -41,7 +41,7 @@ ghost use Rattle.lot_book_report.specs.Dump.{dump_text};
 ghost use Rattle.lot_dump.specs.Form.{IsHead};
 ghost use Rattle.lot_parts.specs.Dump.{dump_text as text_of_dump};
 ghost use Rattle.lot_input.specs.Input.{Reading};
-ghost use Rattle.lot_report.specs.Output.{WritesMade};
+ghost use Rattle.lot_io.specs.Writes.{WritesMade};
 ghost use Rattle.lot_restore.specs.DumpOfBook.{CanBeDumped, GivesBack, HaveNoBlanks};
 ghost use Rattle.lot_restore.specs.Restoring.{IsBookOf, JudgedDump, Terms};
 ghost use Rattle.lot_store.specs.Extent.{extent_of};

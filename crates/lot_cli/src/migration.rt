@@ -3,13 +3,14 @@ ghost use Rattle.lot_stream.specs.Status.{IsStatus};
 ghost use Rattle.lot_cli.specs.Serve.{SaysMigrated};
 ghost use Rattle.sqlite.specs.Held.{state};
 ghost use Rattle.lot_cli.specs.Says.{told};
-ghost use Rattle.lot_report.specs.Output.{writes_between};
+ghost use Rattle.lot_io.specs.Writes.{writes_between};
 
 use crate::action::Served;
 use crate::halt::Halt;
 use crate::run::{halted, tell};
+use lot_io::CountedWrite;
 use lot_migrate::Progress;
-use lot_report::{CountedWrite, print_texts};
+use lot_report::print_texts;
 use lot_store::HandedBack;
 use lot_stream::Status;
 use sqlite::{Alter, Connection};

@@ -2,9 +2,9 @@ ghost use Rattle.std.specs.Prelude.{◌≡◌, ◌⊎◌, None, false, option_co
 ghost use Rattle.lot_stream.specs.Status.{IsStatus};
 ghost use Rattle.lot_cli.specs.Runs.{Posts, PostsRow, unfit};
 ghost use Rattle.sqlite.specs.Held.{state};
-ghost use Rattle.lot_stream.specs.Input.{reads_between};
+ghost use Rattle.lot_io.specs.Reads.{reads_between};
 ghost use Rattle.lot_cli.specs.Says.{told};
-ghost use Rattle.lot_report.specs.Output.{writes_between};
+ghost use Rattle.lot_io.specs.Writes.{writes_between};
 ghost use Rattle.lot_input.specs.Input.{reading_between};
 
 use crate::action::Served;
@@ -16,9 +16,9 @@ use lot_base::Label;
 use lot_completion::Watch;
 use lot_import::Numbered;
 use lot_input::{keyed_row, keyed_text};
-use lot_report::CountedWrite;
+use lot_io::{CountedRead, CountedWrite};
 use lot_rounding::Rounding;
-use lot_stream::{CountedRead, UNUSABLE};
+use lot_stream::UNUSABLE;
 use sqlite::{Alter, Connection};
 use std::alloc::Global;
 

@@ -1,6 +1,6 @@
 //! Reports of the book that is there.
 ghost use Rattle.std.specs.Prelude.{◌≡◌, None, Option, false};
-ghost use Rattle.lot_report.specs.Output.{WriteCalls, writes_between};
+ghost use Rattle.lot_io.specs.Writes.{WriteCalls, writes_between};
 ghost use Rattle.lot_stream.specs.Status.{IsStatus};
 ghost use Rattle.lot_stream.specs.declared.status.Status.TheVariants.{Stopped};
 ghost use Rattle.lot_cli.specs.Reports.{Concludes, Reports, ShowsReport, ShowsAllRows, ShowsSome, report_line};
@@ -23,7 +23,8 @@ use lot_book_report::{
     ShowFault, digest_book, show_dump, show_gains, show_gains_csv, show_holdings,
     show_holdings_csv, show_journal,
 };
-use lot_report::{CountedWrite, print_texts};
+use lot_io::CountedWrite;
+use lot_report::print_texts;
 use lot_store::{Book, HandedBack, adopt};
 use lot_stream::Status;
 use sqlite::{Alter, Connection};

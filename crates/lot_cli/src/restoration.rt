@@ -4,17 +4,18 @@ ghost use Rattle.lot_stream.specs.Status.{IsStatus};
 ghost use Rattle.lot_cli.specs.Restore.{EndsUnrestored, RestoresBook, answer_of, status_of_restored, terms_for};
 ghost use Rattle.lot_cli.specs.Says.{Says, told};
 ghost use Rattle.sqlite.specs.Held.{state};
-ghost use Rattle.lot_stream.specs.Input.{reads_between};
-ghost use Rattle.lot_report.specs.Output.{writes_between};
+ghost use Rattle.lot_io.specs.Reads.{reads_between};
+ghost use Rattle.lot_io.specs.Writes.{writes_between};
 ghost use Rattle.lot_input.specs.Input.{reading_between};
 
 use crate::action::Served;
 use crate::halt::Halt;
 use crate::run::{halted, tell};
 use lot_args::Restore;
-use lot_report::{CountedWrite, print_texts};
+use lot_io::{CountedRead, CountedWrite};
+use lot_report::print_texts;
 use lot_restore::{RestoreFault, Restored, Restoring};
-use lot_stream::{CountedRead, Status};
+use lot_stream::Status;
 use sqlite::{Alter, Connection};
 use std::alloc::Global;
 

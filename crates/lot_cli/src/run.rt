@@ -10,7 +10,7 @@ ghost use Rattle.lot_store.specs.declared.run.RunEnd.{RunEnd};
 ghost use Rattle.std.specs.Io.KnownBytes.{Keeps};
 ghost use Rattle.sqlite.specs.Held.{state};
 ghost use Rattle.sqlite.specs.State.{HasCleanDisk};
-ghost use Rattle.lot_report.specs.Output.{writes_between};
+ghost use Rattle.lot_io.specs.Writes.{writes_between};
 
 use crate::action::Served;
 use crate::halt::{Halt, print_halt};
@@ -18,7 +18,8 @@ use lot_args::Keeping;
 use lot_atomic::{Look, run_all};
 use lot_command::Key;
 use lot_completion::Watch;
-use lot_report::{CountedWrite, PrintFault};
+use lot_io::CountedWrite;
+use lot_report::PrintFault;
 use lot_rounding::{Asked, Rounding};
 use lot_store::{Book, Ending, HandedBack, RunEnd, adopt};
 use lot_stream::{Status, finish};

@@ -3,18 +3,19 @@ ghost use Rattle.std.specs.String.{string_bytes};
 ghost use Rattle.lot_input.specs.Input.{Gives, reading_between};
 ghost use Rattle.lot_stream.specs.Status.{IsStatus};
 ghost use Rattle.lot_cli.specs.Shows.{ShownAs, ShowsExport, ShowsNone};
-ghost use Rattle.lot_stream.specs.Input.{reads_between};
+ghost use Rattle.lot_io.specs.Reads.{reads_between};
 ghost use Rattle.lot_cli.specs.Says.{told};
-ghost use Rattle.lot_report.specs.Output.{writes_between};
+ghost use Rattle.lot_io.specs.Writes.{writes_between};
 
 use crate::halt::Halt;
 use crate::run::{say_halt, tell};
 use lot_args::Batch;
 use lot_export::shown_text;
 use lot_input::{InputFault, keyed_export};
+use lot_io::{CountedRead, CountedWrite};
 use lot_profile::Profile;
-use lot_report::{CountedWrite, print_texts};
-use lot_stream::{CountedRead, Status};
+use lot_report::print_texts;
+use lot_stream::Status;
 use std::alloc::Global;
 
 /// The outcome of showing an export.

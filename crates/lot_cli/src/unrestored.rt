@@ -1,12 +1,13 @@
 //! Why no book is made of a dump.
 ghost use Rattle.std.specs.Prelude.{◌≡◌, IfErr, OnErr, OnOk};
-ghost use Rattle.lot_report.specs.Output.{HasFailed, NoneFailed};
+ghost use Rattle.lot_io.specs.Writes.{HasFailed, NoneFailed};
 ghost use Rattle.lot_report.specs.Written.{WritesLine};
 ghost use Rattle.lot_cli.specs.HaltLine.{dump_name, restore_line, status_of_dump, status_of_restore, sum_name};
 
 use crate::halt::create_name;
+use lot_io::CountedWrite;
 use lot_parts::{CommandFault, DumpFault, SumFault};
-use lot_report::{CountedWrite, PrintFault, print_texts};
+use lot_report::{PrintFault, print_texts};
 use lot_restore::RestoreFault;
 use lot_stream::{Fault, Status, print_fault};
 

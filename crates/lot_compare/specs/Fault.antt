@@ -2,7 +2,7 @@
 use Rattle.std.specs.Prelude.{◌≡◌, ℕ, Bool, true, false, IsTrue, List, Result, Ok, Err, ⊤}
 use Rattle.lot_book_report.specs.Fault.{fault_name as show_fault_name, is_of_writer as is_write, report_fault_name}
 use Rattle.lot_book_report.specs.declared.fault.ShowFault.{ShowFault}
-use Rattle.lot_report.specs.Output.{HasFailed, NoneFailed, WritesMade}
+use Rattle.lot_io.specs.Writes.{HasFailed, NoneFailed, WritesMade}
 use Rattle.lot_report.specs.declared.fault.ReportFault.TheVariants as report
 use Rattle.lot_compare.specs.declared.fault.CompareFault.{CompareFault}
 use Rattle.lot_compare.specs.declared.fault.CompareFault.TheVariants.{Lines, New, Old}

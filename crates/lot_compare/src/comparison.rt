@@ -3,13 +3,14 @@ ghost use Rattle.lot_compare.specs.Books.{HoldsOfBoth, ReadsNew, ReadsOld, Shows
 ghost use Rattle.lot_compare.specs.Fault.{HasCause};
 ghost use Rattle.lot_compare.specs.Lines.{WritesLines, of_kind};
 ghost use Rattle.lot_compare.specs.Sums.{differing};
-ghost use Rattle.lot_report.specs.Output.{HasFailed, NoneFailed, writes_between};
+ghost use Rattle.lot_io.specs.Writes.{HasFailed, NoneFailed, writes_between};
 
 use crate::book::add_book;
 use crate::fault::CompareFault;
 use crate::lines::{Kind, print_differing};
 use crate::sums::{Side, Sums};
-use lot_report::{CountedWrite, ReportFault};
+use lot_io::CountedWrite;
+use lot_report::ReportFault;
 use lot_store::Book;
 use sqlite::Alter;
 use std::alloc::Global;

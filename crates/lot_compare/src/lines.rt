@@ -1,5 +1,5 @@
 ghost use Rattle.std.specs.Prelude.{◌≡◌, ◌∷◌, [], IsErrOf, OnOk, SomeIff};
-ghost use Rattle.lot_report.specs.Output.{HasFailed, NoneFailed};
+ghost use Rattle.lot_io.specs.Writes.{HasFailed, NoneFailed};
 ghost use Rattle.lot_report.specs.Written.{WritesLine};
 ghost use Rattle.lot_num.specs.Amount.{IsUnits};
 ghost use Rattle.lot_compare.specs.Lines.{IsSumText, WritesLines, WritesOne, line_with, of_kind, word};
@@ -7,8 +7,9 @@ ghost use Rattle.lot_compare.specs.Sums.{differing};
 
 use crate::subject::Subject;
 use crate::sums::{Sides, Sums};
+use lot_io::CountedWrite;
 use lot_num::{Units, Wide};
-use lot_report::{CountedWrite, PrintFault, ReportFault, print_line};
+use lot_report::{PrintFault, ReportFault, print_line};
 use std::alloc::Global;
 
 /// What a line says of two books.

@@ -5,7 +5,7 @@ ghost use Rattle.lot_csv.specs.Gains.{gain_fields, gains_header, lot_record, mon
 ghost use Rattle.lot_csv.specs.Record.{field_text, others_text};
 ghost use Rattle.lot_csv.specs.Shares.{gain_in, lots_at};
 ghost use Rattle.lot_csv.specs.declared.shares.LotPrice.TheVariants.{Share};
-ghost use Rattle.lot_report.specs.Output.{HasFailed, NoneFailed};
+ghost use Rattle.lot_io.specs.Writes.{HasFailed, NoneFailed};
 ghost use Rattle.lot_report.specs.Written.{WritesEach, WritesLine};
 
 use crate::record::{push_cost, push_field, push_others};
@@ -14,8 +14,9 @@ use itoa::Buffer;
 use lot_base::Day;
 use lot_book::{LotKey, Sale};
 use lot_command::Price;
+use lot_io::CountedWrite;
 use lot_num::{Units, Wide};
-use lot_report::{CountedWrite, PrintFault, print_texts};
+use lot_report::{PrintFault, print_texts};
 use std::alloc::{AllocError, Global};
 
 /// Identifies the posting of a book that sells.

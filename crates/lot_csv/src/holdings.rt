@@ -2,13 +2,14 @@ ghost use Rattle.std.specs.Prelude.{◌≡◌, ◌++◌, IfOk, IsErrOf, OnOk};
 ghost use Rattle.std.specs.String.{string_bytes};
 ghost use Rattle.lot_csv.specs.Holdings.{holding_record, holdings_header, position_fields, value_fields};
 ghost use Rattle.lot_csv.specs.Record.{others_text};
-ghost use Rattle.lot_report.specs.Output.{HasFailed, NoneFailed};
+ghost use Rattle.lot_io.specs.Writes.{HasFailed, NoneFailed};
 ghost use Rattle.lot_report.specs.Written.{WritesLine};
 
 use crate::record::{push_cost, push_field, push_others};
 use lot_book::LotKey;
+use lot_io::CountedWrite;
 use lot_num::{Units, weight};
-use lot_report::{CountedWrite, PrintFault, Valuation, ValuedHolding, print_texts};
+use lot_report::{PrintFault, Valuation, ValuedHolding, print_texts};
 use std::alloc::{AllocError, Global};
 
 /// Which columns a table of holdings has.

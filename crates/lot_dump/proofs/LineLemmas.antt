@@ -8,8 +8,8 @@ use Rattle.std.specs.IoError.{error_kind}
 use Rattle.std.specs.declared.io.ErrorKind.{ErrorKind}
 use Rattle.std.proofs.Math.Seq.{drop-append_seam}
 use Rattle.std.proofs.lemmas.List.{drop-drop, drop-take, length-take}
-use Rattle.lot_stream.specs.Calls.{Calls, Counts, CountsCall, GrowsBy, IsCall}
-use Rattle.lot_stream.specs.Input.{CallsMade, NoneFailed}
+use Rattle.lot_io.specs.Reads.{Counts, CountsRead, GrowsBy, IsCall, ReadCalls, ReadsMade}
+use Rattle.lot_stream.specs.Input.{NoneFailed}
 use Rattle.lot_syntax.specs.Line.{IsLine}
 use Rattle.lot_dump.specs.Cutting.{cut_of, parts}
 use Rattle.lot_dump.specs.Lines.{EndsFor, HasLongLine, Made, TakesAhead, longest_input_line}
@@ -38,40 +38,40 @@ takes_none ahead line after part rest Read same long other is whole = absurd (ot
 
 -- ---- What calls come to.
 
-together : (old mid new a b both : Calls) → GrowsBy old mid a → GrowsBy mid new b
+together : (old mid new a b both : ReadCalls) → GrowsBy old mid a → GrowsBy mid new b
     → (both.made ≡ a.made + b.made) × (both.failed ≡ a.failed + b.failed) × (both.ended ≡ a.ended + b.ended) × (both.given ≡ a.given + b.given)
     → GrowsBy old new both
 together old mid new a b both one two is =
     (omega (arith, one.0, two.0, is.0), omega (arith, one.1, two.1, is.1), omega (arith, one.2, two.2, is.2), omega (arith, one.3, two.3, is.3))
 
-abbrev sum_of : Calls → Calls → Calls
+abbrev sum_of : ReadCalls → ReadCalls → ReadCalls
 sum_of a b = record { made = a.made + b.made; failed = a.failed + b.failed; ended = a.ended + b.ended; given = a.given + b.given }
 
-counts_on : (old mid new : Option Calls) (a b : Calls) → Counts old mid a → Counts mid new b → Counts old new (sum_of a b)
+counts_on : (old mid new : Option ReadCalls) (a b : ReadCalls) → Counts old mid a → Counts mid new b → Counts old new (sum_of a b)
 counts_on None mid new a b one two = tt
 counts_on (Some old) None new a b one two = absurd one
 counts_on (Some old) (Some mid) None a b one two = absurd two
 counts_on (Some old) (Some mid) (Some new) a b one two = together old mid new a b (sum_of a b) one two (refl, refl, refl, refl)
 
-abbrev pub between : Option Calls → Option Calls → CallsMade
+abbrev pub between : Option ReadCalls → Option ReadCalls → ReadsMade
 between old new = record { before = old; after = new }
 
 -- more calls after some
-pub made_on : (old mid new : Option Calls) (m k n j : ℕ) → Made (between old mid) m k → Made (between mid new) n j → Made (between old new) (m + n) (k + j)
+pub made_on : (old mid new : Option ReadCalls) (m k n j : ℕ) → Made (between old mid) m k → Made (between mid new) n j → Made (between old new) (m + n) (k + j)
 made_on old mid new m k n j (a, one, made, failed) (b, two, more, worse) =
     (sum_of a b, counts_on old mid new a b one two, omega (arith, made, more), omega (arith, failed, worse))
 
-pub none_made : (known : Option Calls) → Made (between known known) 0 0
+pub none_made : (known : Option ReadCalls) → Made (between known known) 0 0
 none_made None = (record { made = 0; failed = 0; ended = 0; given = 0 }, tt, refl, refl)
 none_made (Some calls) =
     (record { made = 0; failed = 0; ended = 0; given = 0 }, (omega arith, omega arith, omega arith, omega arith), refl, refl)
 
-pub none_failed : (old new : Option Calls) (made : ℕ) → Made (between old new) made 0 → NoneFailed (between old new)
+pub none_failed : (old new : Option ReadCalls) (made : ℕ) → Made (between old new) made 0 → NoneFailed (between old new)
 none_failed old new made (calls, counts, is, none) = (calls, counts, none)
 
 -- one call
-pub one_call : (old new : Option Calls) (outcome : Result ℕ Error) (failed : ℕ) → CountsCall old new outcome
-    → ((call : Calls) → IsCall outcome call → (call.made ≡ 1) × (call.failed ≡ failed)) → Made (between old new) 1 failed
+pub one_call : (old new : Option ReadCalls) (outcome : Result ℕ Error) (failed : ℕ) → CountsRead old new outcome
+    → ((call : ReadCalls) → IsCall outcome call → (call.made ≡ 1) × (call.failed ≡ failed)) → Made (between old new) 1 failed
 one_call None new outcome failed counts is = (record { made = 1; failed = failed; ended = 0; given = 0 }, tt, refl, refl)
 one_call (Some old) None outcome failed counts is = absurd counts
 one_call (Some old) (Some new) outcome failed (call, one, grows) is = let both = is call one in (call, grows, both.0, both.1)
@@ -143,13 +143,13 @@ pub part_line : (ahead taken now after : List ℕ) (found : Found) → found ≡
 part_line ahead taken now after Whole is takes line = cc
 part_line ahead taken now after Part is (more, none, same) line = subst (λ (t : List ℕ). IsLine t) (sym same) (lines_join taken ahead line more)
 
-pub ahead_cause : (all : CallsMade) (made : ℕ) (ahead taken now after : List ℕ) (fault : LineFault) → TakesAhead ahead taken now after (Err fault)
+pub ahead_cause : (all : ReadsMade) (made : ℕ) (ahead taken now after : List ℕ) (fault : LineFault) → TakesAhead ahead taken now after (Err fault)
     → Made all made 0 → EndsFor all fault
 ahead_cause all made ahead taken now after TooLong takes calls = (made, calls)
 ahead_cause all made ahead taken now after Memory takes calls = (made, calls)
 ahead_cause all made ahead taken now after Read takes calls = absurd takes
 
-pub read_cause : (all : CallsMade) (made : ℕ) (fault : LineFault) → fault ≡ Read → Made all made 1 → EndsFor all fault
+pub read_cause : (all : ReadsMade) (made : ℕ) (fault : LineFault) → fault ≡ Read → Made all made 1 → EndsFor all fault
 read_cause all made Read this calls = inl (made, calls)
 read_cause all made TooLong this calls = cc
 read_cause all made Memory this calls = cc
@@ -184,20 +184,20 @@ none_ahead end chunk = let none : end - end ≡ 0 = omega arith in ap (λ n. tak
 
 -- ---- One call, by its outcome.
 
-pub gave_call : (outcome : Result ℕ Error) (count : ℕ) → outcome ≡ Ok count → (call : Calls) → IsCall outcome call
+pub gave_call : (outcome : Result ℕ Error) (count : ℕ) → outcome ≡ Ok count → (call : ReadCalls) → IsCall outcome call
     → (call.made ≡ 1) × (call.failed ≡ 0)
 gave_call (Ok given) count at call is = (is.0, is.1)
 gave_call (Err error) count at call is = cc
 
 pub paused_call : (outcome : Result ℕ Error) (error : Error) → outcome ≡ Err error → error_kind error ≡ ErrorKind.Interrupted
-    → (call : Calls) → IsCall outcome call → (call.made ≡ 1) × (call.failed ≡ 0)
+    → (call : ReadCalls) → IsCall outcome call → (call.made ≡ 1) × (call.failed ≡ 0)
 paused_call (Ok given) error at kind call is = cc
 paused_call (Err other) error at kind call (one, inl (same, none), on, nothing) = (one, none)
 paused_call (Err other) error at kind call (one, inr (differs, failed), on, nothing) =
     let this : other ≡ error = cc in absurd (differs (ap error_kind this ∙ kind))
 
 pub failed_call : (outcome : Result ℕ Error) (error : Error) → outcome ≡ Err error → error_kind error ≢ ErrorKind.Interrupted
-    → (call : Calls) → IsCall outcome call → (call.made ≡ 1) × (call.failed ≡ 1)
+    → (call : ReadCalls) → IsCall outcome call → (call.made ≡ 1) × (call.failed ≡ 1)
 failed_call (Ok given) error at kind call is = cc
 failed_call (Err other) error at kind call (one, inl (same, none), on, nothing) =
     let this : other ≡ error = cc in absurd (kind (ap error_kind (sym this) ∙ same))

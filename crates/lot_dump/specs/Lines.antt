@@ -1,8 +1,8 @@
 -- The lines of an input, one after another, and what is made of its bytes, call by call.
 use Rattle.std.specs.Prelude.{◌≡◌, ◌≢◌, ◌⊎◌, ◌<◌, ◌+◌, ℕ, List, [], ◌∷◌, ◌++◌, length, Option, None, Some, IfSome, Result, Ok, Err, ⊤}
 use Rattle.std.specs.Io.KnownBytes.{IsAtEnd}
-use Rattle.lot_stream.specs.Calls.{Calls, Counts}
-use Rattle.lot_stream.specs.Input.{CallsMade, most_calls}
+use Rattle.lot_io.specs.Reads.{Counts, ReadCalls, ReadsMade}
+use Rattle.lot_stream.specs.Input.{most_calls}
 use Rattle.lot_syntax.specs.Line.{IsLine}
 use Rattle.lot_dump.specs.declared.lines.Filled.{Filled}
 use Rattle.lot_dump.specs.declared.lines.Filled.TheVariants.{Ended, Goes}
@@ -48,12 +48,12 @@ HasLongLine known = IfSome known BeginsLong
 -- ---- What calls come to.
 
 -- so many calls were made, and so many of them failed
-abbrev pub Made : CallsMade → ℕ → ℕ → Type 0
+abbrev pub Made : ReadsMade → ℕ → ℕ → Type 0
 Made all made failed =
-    (calls : Calls) × Counts all.before all.after calls × (calls.made ≡ made) × (calls.failed ≡ failed)
+    (calls : ReadCalls) × Counts all.before all.after calls × (calls.made ≡ made) × (calls.failed ≡ failed)
 
 -- The cause of a fault. The reader can't be read: a call failed, or as many were made as may be. Else no call failed.
-abbrev pub EndsFor : CallsMade → LineFault → Type 0
+abbrev pub EndsFor : ReadsMade → LineFault → Type 0
 EndsFor all Read = ((made : ℕ) × Made all made 1) ⊎ Made all most_calls 0
 EndsFor all TooLong = (made : ℕ) × Made all made 0
 EndsFor all Memory = (made : ℕ) × Made all made 0

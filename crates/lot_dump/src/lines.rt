@@ -1,11 +1,12 @@
 ghost use Rattle.std.specs.Prelude.{◌≡◌, ◌≢◌, ◌≤◌, ◌<◌, ◌+◌, ◌++◌, ◌↔◌, [], vec_len, length, IfErr, IfOk, IsErrOf, OnErr, OnOk};
 ghost use Rattle.std.specs.Io.KnownBytes.{Consumes, prepend_known};
-ghost use Rattle.lot_stream.specs.Input.{NoneFailed, reads_between};
+ghost use Rattle.lot_io.specs.Reads.{reads_between};
+ghost use Rattle.lot_stream.specs.Input.{NoneFailed};
 ghost use Rattle.lot_syntax.specs.Line.{IsLine};
 ghost use Rattle.lot_dump.specs.Lines.{EndsFor, EndsLine, Fills, HasLongLine, Made, TakesAhead, longest_input_line, text_of};
 
 use crate::cut::cut;
-use lot_stream::CountedRead;
+use lot_io::CountedRead;
 use std::alloc::{AllocError, Global};
 use std::io::ErrorKind;
 use std::marker::Model;

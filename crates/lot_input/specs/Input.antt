@@ -1,7 +1,8 @@
 -- The commands that an input gives, each under its key, or why it gives none.
 use Rattle.std.specs.Prelude.{◌≡◌, ◌<◌, ◌≤◌, ℕ, List, length, IfSome, Option}
 use Rattle.std.specs.Io.KnownBytes.{IsAtEnd}
-use Rattle.lot_stream.specs.Input.{CallsMade, EndsFor, EndsWell, longest_input}
+use Rattle.lot_io.specs.Reads.{ReadsMade}
+use Rattle.lot_stream.specs.Input.{EndsFor, EndsWell, longest_input}
 use Rattle.lot_stream.specs.declared.input.SlurpFault.{SlurpFault}
 use Rattle.lot_stream.specs.declared.input.SlurpFault.TheVariants as slurp
 use Rattle.lot_input.specs.declared.fault.InputFault.{InputFault}
@@ -11,10 +12,10 @@ use Rattle.lot_input.specs.declared.fault.InputFault.TheVariants.{Unasked, Unrea
 pub record Reading : Type 0 where
   pub bytes : Option (List ℕ)
   pub left : Option (List ℕ)
-  pub calls : CallsMade
+  pub calls : ReadsMade
 
 -- what is known of it by the bytes that it had before some calls, and by those that it has left after them
-abbrev pub reading_between : Option (List ℕ) → Option (List ℕ) → CallsMade → Reading
+abbrev pub reading_between : Option (List ℕ) → Option (List ℕ) → ReadsMade → Reading
 reading_between before after calls = record { bytes = before; left = after; calls = calls }
 
 -- This input is all that a reader has, where its bytes are known. It is no longer than an input may be. The reader has none

@@ -1,13 +1,14 @@
 //! The line that reports why a broker's export gives no commands.
 ghost use Rattle.std.specs.Prelude.{◌≡◌, IfErr, OnErr, OnOk};
-ghost use Rattle.lot_report.specs.Output.{HasFailed, NoneFailed};
+ghost use Rattle.lot_io.specs.Writes.{HasFailed, NoneFailed};
 ghost use Rattle.lot_report.specs.Written.{WritesLine};
 ghost use Rattle.lot_input.specs.ExportLine.{export_line, name_of_name, name_of_row, name_of_saying, numbered, status_of_export};
 
 use crate::fault::print_memory;
 use itoa::Buffer;
 use lot_export::ExportFault;
-use lot_report::{CountedWrite, PrintFault, print_texts};
+use lot_io::CountedWrite;
+use lot_report::{PrintFault, print_texts};
 use lot_roles::RowFault;
 use lot_sheet::{NameCause, RowCause};
 use lot_stream::Status;

@@ -3,15 +3,16 @@ ghost use Rattle.lot_export.specs.Export.{IsExport};
 ghost use Rattle.lot_input.specs.Exported.{IsFaultyExport};
 ghost use Rattle.lot_input.specs.Input.{Gives, GivesNone, reading_between};
 ghost use Rattle.lot_input.specs.Keyed.{HaveNext, import_source};
-ghost use Rattle.lot_stream.specs.Input.{reads_between};
+ghost use Rattle.lot_io.specs.Reads.{reads_between};
 
 use crate::fault::InputFault;
 use crate::keyed::source;
 use lot_args::Batch;
 use lot_base::Label;
 use lot_export::{Export, read_export};
+use lot_io::CountedRead;
 use lot_profile::Profile;
-use lot_stream::{CountedRead, slurp};
+use lot_stream::slurp;
 use std::alloc::Global;
 
 /// Reads all that a reader has as a broker's export. Returns what its rows come to by a profile, without those whose names are

@@ -1,5 +1,5 @@
 ghost use Rattle.std.specs.Prelude.{◌≡◌, IfErr, OnErr, OnOk};
-ghost use Rattle.lot_report.specs.Output.{HasFailed, NoneFailed};
+ghost use Rattle.lot_io.specs.Writes.{HasFailed, NoneFailed};
 ghost use Rattle.lot_report.specs.Written.{WritesLine};
 ghost use Rattle.lot_input.specs.InputLine.{cash_line, cause_name, input_line, memory_line, rows_line, status_of_cash, status_of_input, status_of_rows};
 
@@ -7,8 +7,9 @@ use crate::export_fault::{print_export_fault, status_of_export};
 use itoa::Buffer;
 use lot_export::ExportFault;
 use lot_import::{Cause, KeyedFault, RowsFault};
+use lot_io::CountedWrite;
 use lot_read::TextFault;
-use lot_report::{CountedWrite, PrintFault, print_texts};
+use lot_report::{PrintFault, print_texts};
 use lot_stream::{Fault, SlurpFault, Status, print_fault};
 use std::alloc::AllocError;
 use thiserror::Error;

@@ -2,15 +2,16 @@ ghost use Rattle.std.specs.Prelude.{◌≡◌, ◌≤◌, IfErr, IfOk, length};
 ghost use Rattle.lot_input.specs.Input.{Gives, GivesNone, reading_between};
 ghost use Rattle.lot_input.specs.Keyed.{HaveNext};
 ghost use Rattle.lot_input.specs.Rows.{FileMeans, HasRowsOf, IsFaultyFile};
-ghost use Rattle.lot_stream.specs.Input.{reads_between};
+ghost use Rattle.lot_io.specs.Reads.{reads_between};
 
 use crate::fault::InputFault;
 use crate::keyed::source;
 use lot_args::Batch;
 use lot_base::Label;
 use lot_import::{Accounts, Numbered, keyed_commands, read_rows};
+use lot_io::CountedRead;
 use lot_rounding::Decimals;
-use lot_stream::{CountedRead, slurp};
+use lot_stream::slurp;
 use std::alloc::Global;
 
 /// Reads all that a reader has as a broker file. Returns the commands of its rows from that number on, without those whose `ref`

@@ -2,7 +2,7 @@ ghost use Rattle.std.specs.Prelude.{◌≡◌, ◌≤◌, IfErr, IfOk, length};
 ghost use Rattle.lot_input.specs.Input.{Gives, GivesNone, reading_between};
 ghost use Rattle.lot_input.specs.Keyed.{HaveNext};
 ghost use Rattle.lot_input.specs.Text.{IsFaultyText, RowMeans, TextMeans, only};
-ghost use Rattle.lot_stream.specs.Input.{reads_between};
+ghost use Rattle.lot_io.specs.Reads.{reads_between};
 
 use crate::fault::InputFault;
 use crate::keyed::{keyed, source};
@@ -10,9 +10,10 @@ use lot_args::Batch;
 use lot_base::Label;
 use lot_command::{Command, Key};
 use lot_import::Numbered;
+use lot_io::CountedRead;
 use lot_read::read;
 use lot_rounding::Asked;
-use lot_stream::{CountedRead, slurp};
+use lot_stream::slurp;
 use std::alloc::Global;
 
 /// Reads all that a reader has as ledger text. Returns its commands from that number on, each under the key of its number in

@@ -7,7 +7,7 @@ use Rattle.sha2.specs.Hashers.{Holds256}
 use Rattle.lot_command.specs.declared.command.Command.{Command}
 use Rattle.lot_read.specs.Text.{Reads}
 use Rattle.lot_report.specs.Printed.{line}
-use Rattle.lot_stream.specs.Calls.{counted}
+use Rattle.lot_io.specs.Reads.{counted}
 use Rattle.lot_dump.specs.Form.{IsHead, end_text, head_text}
 use Rattle.lot_dump.specs.declared.head.Head.{Head}
 use Rattle.lot_dump.specs.declared.heading.Heading.{Heading}

@@ -6,8 +6,8 @@ use Rattle.std.proofs.lemmas.Grind.{flat_map-append}
 use Rattle.lot_syntax.specs.Line.{IsLine}
 use Rattle.lot_report.specs.Printed.{line}
 use Rattle.lot_report.specs.Written.{IsPrefixOf}
-use Rattle.lot_stream.specs.Calls.{Calls, counted}
-use Rattle.lot_stream.specs.Input.{CallsMade, NoneFailed, most_calls}
+use Rattle.lot_io.specs.Reads.{ReadCalls, ReadsMade, counted}
+use Rattle.lot_stream.specs.Input.{NoneFailed, most_calls}
 use Rattle.lot_dump.specs.Form.{IsHead, IsNewer, end_front, head_front, head_text, heading_front}
 use Rattle.lot_dump.specs.Lines.{EndsFor, EndsLine, HasLongLine, Made, text_of}
 use Rattle.lot_dump.specs.declared.head.Head.{Head}
@@ -40,29 +40,29 @@ pub nothing_taken : (known : Option (List ℕ)) → Consumes known known []
 nothing_taken None = tt
 nothing_taken (Some x) = refl
 
-pub no_calls_fail : (known : Option Calls) → NoneFailed (between known known)
+pub no_calls_fail : (known : Option ReadCalls) → NoneFailed (between known known)
 no_calls_fail known = none_failed known known 0 (none_made known)
 
-pub no_more_fail : (old mid new : Option Calls) → NoneFailed (between old mid) → NoneFailed (between mid new) → NoneFailed (between old new)
+pub no_more_fail : (old mid new : Option ReadCalls) → NoneFailed (between old mid) → NoneFailed (between mid new) → NoneFailed (between old new)
 no_more_fail old mid new (a, one, none_a) (b, two, none_b) =
     none_failed old new _ (made_on old mid new a.made 0 b.made 0 (a, one, refl, none_a) (b, two, refl, none_b))
 
 -- ---- Why reading ends.
 
-none_of : (all : CallsMade) (made : ℕ) → Made all made 0 → NoneFailed all
+none_of : (all : ReadsMade) (made : ℕ) → Made all made 0 → NoneFailed all
 none_of all made (calls, counts, is, none) = (calls, counts, none)
 
-pub line_cause : (all : CallsMade) (fault : LineFault) → EndsFor all fault → HasCause all (fault_of_line fault)
+pub line_cause : (all : ReadsMade) (fault : LineFault) → EndsFor all fault → HasCause all (fault_of_line fault)
 line_cause all Lines.Read (inl failed) = inl failed
 line_cause all Lines.Read (inr made) = inr (most_calls, omega arith, made)
 line_cause all Lines.TooLong (made, is) = none_of all made is
 line_cause all Lines.Memory (made, is) = none_of all made is
 
-pub head_cause : (all : CallsMade) (fault : HeadFault) → NoneFailed all → HasCause all (fault_of_head fault)
+pub head_cause : (all : ReadsMade) (fault : HeadFault) → NoneFailed all → HasCause all (fault_of_head fault)
 head_cause all Heads.NotADump none = none
 head_cause all Heads.NewerFormat none = none
 
-pub room_cause : (all : CallsMade) (fault : DumpFault) → (fault ≡ Faults.TooLong) ⊎ (fault ≡ Faults.Memory) → NoneFailed all → HasCause all fault
+pub room_cause : (all : ReadsMade) (fault : DumpFault) → (fault ≡ Faults.TooLong) ⊎ (fault ≡ Faults.Memory) → NoneFailed all → HasCause all fault
 room_cause all fault (inl is) none = subst (HasCause all) (sym is) none
 room_cause all fault (inr is) none = subst (HasCause all) (sym is) none
 
@@ -89,7 +89,7 @@ says_on P Q Faults.TooLong on says = tt
 says_on P Q Faults.Memory on says = tt
 
 -- calls of which none failed come before
-pub cause_on : (old mid new : Option Calls) (fault : DumpFault) → NoneFailed (between old mid) → HasCause (between mid new) fault
+pub cause_on : (old mid new : Option ReadCalls) (fault : DumpFault) → NoneFailed (between old mid) → HasCause (between mid new) fault
     → HasCause (between old new) fault
 cause_on old mid new Faults.Read (a, one, none_a) (inl (made, failed)) =
     inl (_, made_on old mid new a.made 0 made 1 (a, one, refl, none_a) failed)

@@ -5,7 +5,7 @@ use Rattle.std.specs.Io.KnownBytes.{Consumes, prepend_known}
 use Rattle.std.proofs.lemmas.List.{length-replicate}
 use Rattle.lot_syntax.specs.Line.{IsLine}
 use Rattle.lot_report.specs.Printed.{line}
-use Rattle.lot_stream.specs.Calls.{counted}
+use Rattle.lot_io.specs.Reads.{counted}
 use Rattle.lot_dump.specs.Form.{IsEnd, IsHead, IsHeading, end_text, head_text, heading_text}
 use Rattle.lot_dump.specs.declared.end.End.{End}
 use Rattle.lot_dump.specs.declared.head.Head.{Head}

@@ -7,8 +7,8 @@ use Rattle.lot_read.specs.Text.{IsFaultAt, Reads}
 use Rattle.lot_read.specs.declared.fault.TextFault.{TextFault}
 use Rattle.lot_read.specs.declared.fault.TextFault.TheVariants as Texts
 use Rattle.lot_report.specs.Printed.{line}
-use Rattle.lot_stream.specs.Calls.{counted}
-use Rattle.lot_stream.specs.Input.{CallsMade, NoneFailed}
+use Rattle.lot_io.specs.Reads.{ReadsMade, counted}
+use Rattle.lot_stream.specs.Input.{NoneFailed}
 use Rattle.lot_dump.specs.Form.{IsHead, head_text}
 use Rattle.lot_dump.specs.declared.head.Head.{Head}
 use Rattle.lot_parts.specs.Dump.{AreParts, Dump, Front, IsDump, IsLedger, Part, dump_text, last_number, part_text, with_end, with_part}
@@ -155,6 +155,6 @@ MayEnd (OfDump TooLong) = ⊤
 MayEnd (OfDump Memory) = ⊤
 
 -- why reading ends, by the calls that were made
-abbrev pub HasCauseOf : CallsMade → CommandFault → Type 0
+abbrev pub HasCauseOf : ReadsMade → CommandFault → Type 0
 HasCauseOf all (Text number fault) = NoneFailed all
 HasCauseOf all (OfDump fault) = HasCause all fault

@@ -1,6 +1,7 @@
 -- What a fault of a dump says.
 use Rattle.std.specs.Prelude.{◌⊎◌, ◌≤◌, ℕ, ⊤}
-use Rattle.lot_stream.specs.Input.{CallsMade, NoneFailed, most_calls}
+use Rattle.lot_io.specs.Reads.{ReadsMade}
+use Rattle.lot_stream.specs.Input.{NoneFailed, most_calls}
 use Rattle.lot_dump.specs.Lines.{Made}
 use Rattle.lot_dump.specs.declared.head.HeadFault.{HeadFault}
 use Rattle.lot_dump.specs.declared.head.HeadFault.TheVariants as Heads
@@ -29,7 +30,7 @@ fault_of_head Heads.NewerFormat = NewerFormat
 
 -- Why reading ends with a fault. The reader can't be read: a call failed, the last one, or none did, and so many were made as
 -- may be for a line, or more. Else no call failed.
-abbrev pub HasCause : CallsMade → DumpFault → Type 0
+abbrev pub HasCause : ReadsMade → DumpFault → Type 0
 HasCause all Read = ((made : ℕ) × Made all made 1) ⊎ ((made : ℕ) × (most_calls ≤ made) × Made all made 0)
 HasCause all (NotADump line) = NoneFailed all
 HasCause all NewerFormat = NoneFailed all

@@ -6,7 +6,7 @@ use Rattle.sha2.specs.Sha256.{sha256}
 use Rattle.sha2.specs.declared.Sha256.{Sha256}
 use Rattle.lot_syntax.specs.Line.{IsLine}
 use Rattle.lot_report.specs.Printed.{line}
-use Rattle.lot_stream.specs.Calls.{counted}
+use Rattle.lot_io.specs.Reads.{counted}
 use Rattle.lot_dump.specs.Form.{IsEnd, IsHead, IsNewer, end_text, head_text}
 use Rattle.lot_dump.specs.Lines.{longest_input_line}
 use Rattle.lot_dump.specs.declared.end.End.{End}

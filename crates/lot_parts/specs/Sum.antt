@@ -1,7 +1,7 @@
 -- What is found of a dump beside what it says (docs/FORMATS.md, Dump).
 use Rattle.std.specs.Prelude.{◌≡◌, ◌≢◌, length}
 use Rattle.sha2.specs.Sha256.{sha256}
-use Rattle.lot_stream.specs.Calls.{counted}
+use Rattle.lot_io.specs.Reads.{counted}
 use Rattle.lot_parts.specs.Dump.{Dump, text_above_end}
 use Rattle.lot_parts.specs.declared.compare.SumFault.{SumFault}
 use Rattle.lot_parts.specs.declared.compare.SumFault.TheVariants.{WrongCount, WrongDigest}

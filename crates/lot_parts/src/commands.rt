@@ -2,7 +2,8 @@
 ghost use Rattle.std.specs.Prelude.{◌≡◌, ◌∷◌, [], IfErr, IfOk, IfSome, List, ℕ, OnOk, Option, length};
 ghost use Rattle.std.specs.Io.KnownBytes.{prepend_known};
 ghost use Rattle.lot_read.specs.Text.{Reads};
-ghost use Rattle.lot_stream.specs.Input.{NoneFailed, reads_between};
+ghost use Rattle.lot_io.specs.Reads.{reads_between};
+ghost use Rattle.lot_stream.specs.Input.{NoneFailed};
 ghost use Rattle.lot_parts.specs.Commands.{BeginsCommands, FaultAbove, FaultNext, GoesOn, HasCauseOf, IsFaultBelow, IsFaultIn, IsReadTo, Says, fault_below};
 ghost use Rattle.lot_parts.specs.Dump.{Front};
 ghost use Rattle.lot_parts.specs.Reading.{part_of};
@@ -14,8 +15,8 @@ use crate::reader::DumpReader;
 use crate::step::{Step, Sum};
 use lot_command::Command;
 use lot_dump::{Head, Heading};
+use lot_io::CountedRead;
 use lot_read::{LineFault, TextFault, read};
-use lot_stream::CountedRead;
 use std::alloc::Global;
 use thiserror::Error;
 

@@ -1,9 +1,9 @@
 ghost use Rattle.std.specs.Prelude.{◌≡◌, ◌≤◌, ◌<◌, ◌+◌, ◌⊎◌, ◌++◌, [], length, vec_len, IfErr, IfOk, IfSome, IsErrOf, OnErr, OnOk};
-ghost use Rattle.lot_stream.specs.Calls.{counted};
+ghost use Rattle.lot_io.specs.Reads.{counted, reads_between};
 ghost use Rattle.std.specs.Io.KnownBytes.{Consumes, IsAtEnd, prepend_known};
 ghost use Rattle.lot_syntax.specs.Line.{IsLine};
 ghost use Rattle.lot_report.specs.Printed.{line};
-ghost use Rattle.lot_stream.specs.Input.{NoneFailed, reads_between};
+ghost use Rattle.lot_stream.specs.Input.{NoneFailed};
 ghost use Rattle.lot_dump.specs.Form.{IsEnd, IsHead, end_text, head_text};
 ghost use Rattle.lot_parts.specs.Dump.{IsLedger, IsText};
 ghost use Rattle.lot_parts.specs.Fault.{HasCause, SaysNoDump};
@@ -11,7 +11,7 @@ ghost use Rattle.lot_parts.specs.Reading.{BeginsNewer, HasLong, HasNoHead, IsEnd
 
 use crate::fault::DumpFault;
 use lot_dump::{End, Head, Kind, LineEnd, LineReader, kind_of, read_end, read_head};
-use lot_stream::CountedRead;
+use lot_io::CountedRead;
 use std::alloc::{AllocError, Global};
 
 /// The most bytes that the text of an entry may have: 16 MiB, as an input of ledger text (docs/RULES.md, Limits).

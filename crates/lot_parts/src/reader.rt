@@ -1,7 +1,8 @@
 ghost use Rattle.std.specs.Prelude.{◌≡◌, IfErr, IfOk, IfSome, IsErrOf, OnOk};
 ghost use Rattle.std.specs.Io.KnownBytes.{prepend_known};
 ghost use Rattle.lot_report.specs.Printed.{line};
-ghost use Rattle.lot_stream.specs.Input.{NoneFailed, reads_between};
+ghost use Rattle.lot_io.specs.Reads.{reads_between};
+ghost use Rattle.lot_stream.specs.Input.{NoneFailed};
 ghost use Rattle.lot_parts.specs.Fault.{HasCause, SaysNoDump};
 ghost use Rattle.lot_parts.specs.Reading.{Begins, BeginsNewer, HasLong, Hears, IsNoDumpAt, IsNoRestAt, SaysNext, Takes};
 
@@ -9,7 +10,7 @@ use crate::fault::DumpFault;
 use crate::feed::Feed;
 use crate::step::{Step, Sum};
 use lot_dump::{Head, read_heading};
-use lot_stream::CountedRead;
+use lot_io::CountedRead;
 use sha2::{Digest, Sha256};
 use std::alloc::Global;
 use std::marker::Model;

@@ -1,20 +1,13 @@
 -- What is known of a writer after calls of it.
 use Rattle.std.proofs.Common.{◌≡◌, ◌∙◌, ◌<◌, ◌≤◌, inl, inr, ℕ, ap, arith, refl}
-use Rattle.std.specs.Prelude.{◌+◌, ◌≢◌, ⊤, IsFalse, IsTrue, Option, None, Some, Result, Ok, Err, IsErrAnd, IsErrOf, OnErr, OnOk}
-use Rattle.std.specs.IoError.{error_kind}
+use Rattle.std.specs.Prelude.{◌+◌, Option, None, Some, Result, Ok, Err, IsErrAnd, IsErrOf, OnErr, OnOk}
 use Rattle.std.specs.declared.io.Error.{Error}
-use Rattle.std.specs.declared.io.ErrorKind.{ErrorKind}
 use Rattle.lot_report.specs.declared.fault.ReportFault.{ReportFault}
 use Rattle.lot_report.specs.declared.fault.RowFault.{RowFault}
 use Rattle.lot_report.specs.declared.line.PrintFault.{PrintFault}
-use Rattle.lot_report.specs.Output.{CountsWrite, HasFailed, MarksWrite, NoneFailed, WriteCalls, most_calls}
+use Rattle.lot_io.specs.Writes.{AtLeast, CountsWrite, HasFailed, NoneFailed, WriteCalls, most_calls}
 use Rattle.lot_report.specs.Report.{report_fault}
 use Rattle.lot_report.specs.Written.{IsTaken}
-
--- at least so many calls of `write` were made, where it is known what all calls came to
-abbrev pub AtLeast : ℕ → Option WriteCalls → Type 0
-AtLeast count None = ⊤
-AtLeast count (Some calls) = count ≤ calls.made
 
 -- no call was made yet
 pub none_made : (known : Option WriteCalls) → AtLeast 0 known
@@ -89,26 +82,3 @@ pub row_of_writer : {A : Type 0} (result : Result A RowFault) (fault : ReportFau
     → IsErrOf result (RowFault.Report ReportFault.Write) → fault ≡ ReportFault.Write
 row_of_writer (Ok x) fault from write = absurd from
 row_of_writer (Err e) fault from write = cc
-
--- ---- what one call comes to
-
-module _ (old new : WriteCalls) (outcome : Result ℕ Error) where
-  -- it took nothing
-  pub marks_none : (taken : ℕ) → outcome ≡ Ok taken → taken ≡ 0 → IsTrue new.has_failed → new.is_flushed ≡ old.is_flushed
-      → MarksWrite old new outcome
-  marks_none taken is none failed same = rw (is) (inl (none, failed, same))
-
-  -- it took some bytes
-  pub marks_some : (taken : ℕ) → outcome ≡ Ok taken → 0 < taken → new.has_failed ≡ old.has_failed → IsFalse new.is_flushed
-      → MarksWrite old new outcome
-  marks_some taken is some same unflushed = rw (is) (inr (some, same, unflushed))
-
-  -- it was interrupted
-  pub marks_paused : (error : Error) → outcome ≡ Err error → error_kind error ≡ ErrorKind.Interrupted → new.has_failed ≡ old.has_failed
-      → new.is_flushed ≡ old.is_flushed → MarksWrite old new outcome
-  marks_paused error is kind same flushed = rw (is) (inl (kind, same), flushed)
-
-  -- it met another error
-  pub marks_failed : (error : Error) → outcome ≡ Err error → error_kind error ≢ ErrorKind.Interrupted → IsTrue new.has_failed
-      → new.is_flushed ≡ old.is_flushed → MarksWrite old new outcome
-  marks_failed error is kind failed flushed = rw (is) (inr (kind, failed), flushed)

@@ -6,5 +6,3 @@ pub mod Fed
 pub mod Gains
 pub mod Proceeds
 pub mod Holdings
-pub mod Output
-pub mod CountedWriter

@@ -3,17 +3,17 @@ ghost use Rattle.std.specs.Io.KnownBytes.{Appends};
 ghost use Rattle.lot_book.specs.Gain.{currency_of};
 ghost use Rattle.lot_book.specs.Sale.{SaleParts};
 ghost use Rattle.lot_report.specs.Gains.{CountsSale, EndsGains, GrowsBySale, HasTaken, IsFed, TakesSale, end_lines, gained, is_spent, leg_line, priced_line, sale_line, sale_lines, sales_text, unpriced_line};
-ghost use Rattle.lot_report.specs.Output.{HasFailed, NoneFailed};
+ghost use Rattle.lot_io.specs.Writes.{HasFailed, NoneFailed};
 ghost use Rattle.lot_report.specs.Written.{WritesEach, WritesLine};
 
 use crate::fault::{ReportFault, RowFault};
 use crate::line::{PrintFault, print_line};
 use crate::lot::{Valuation, print_lot};
-use crate::output::CountedWrite;
 use crate::totals::Totals;
 use lot_base::Commodity;
 use lot_book::{Gain, Sale};
 use lot_command::Price;
+use lot_io::CountedWrite;
 use std::alloc::Global;
 use std::fmt;
 

@@ -2,7 +2,7 @@ ghost use Rattle.std.specs.Prelude.{◌≡◌, ◌↔◌, List, [], ◌∷◌, �
 ghost use Rattle.std.specs.Io.KnownBytes.{Appends};
 ghost use Rattle.lot_report.specs.declared.holdings.ValuedHolding.{ValuedHolding as Row};
 ghost use Rattle.lot_report.specs.Holdings.{CountsBoth, CountsHolding, EndsHoldings, GrowsByHolding, HasTaken, IsFed, TakesHolding, cost_of, end_lines, holding_row, is_spent, rows_text, value_at};
-ghost use Rattle.lot_report.specs.Output.{HasFailed, NoneFailed};
+ghost use Rattle.lot_io.specs.Writes.{HasFailed, NoneFailed};
 ghost use Rattle.lot_report.specs.Printed.{plain_row};
 ghost use Rattle.lot_report.specs.Report.{AreSums};
 ghost use Rattle.lot_report.specs.Written.{WritesEach, WritesLine};
@@ -10,10 +10,10 @@ ghost use Rattle.lot_report.specs.Written.{WritesEach, WritesLine};
 use crate::fault::{ReportFault, RowFault};
 use crate::line::{PrintFault, print_line};
 use crate::lot::{Valuation, print_lot};
-use crate::output::CountedWrite;
 use crate::totals::Totals;
 use lot_base::Commodity;
 use lot_book::{Holding, LotKey};
+use lot_io::CountedWrite;
 use lot_num::{Rate, Units, Wide, weight};
 use std::alloc::Global;
 

@@ -2,13 +2,13 @@ ghost use Rattle.std.specs.Prelude.{◌≡◌, ◌∷◌, ◌++◌, [], ◌↔�
 ghost use Rattle.std.specs.Io.KnownBytes.{Appends};
 ghost use Rattle.lot_report.specs.declared.journal.Entry.{Entry as EntryValue};
 ghost use Rattle.lot_report.specs.Journal.{GrowsByEntry, entry_text, is_spent, journal_text};
-ghost use Rattle.lot_report.specs.Output.{HasFailed, NoneFailed};
+ghost use Rattle.lot_io.specs.Writes.{HasFailed, NoneFailed};
 ghost use Rattle.lot_report.specs.Written.{WritesLine};
 
 use crate::line::{PrintFault, put_all};
-use crate::output::CountedWrite;
 use itoa::Buffer;
 use lot_command::Key;
+use lot_io::CountedWrite;
 use thiserror::Error;
 
 /// An accepted command as the journal lists it: its number, its key, and its canonical text.

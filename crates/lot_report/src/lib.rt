@@ -8,7 +8,6 @@
 //! - `totals`: sums of amounts in each of their currencies.
 //! - `lot`: the line of units in a lot, and their value.
 //! - `line`: how a line reaches the writer.
-//! - `output`: writers whose calls are counted (`CountedWrite`, `CountedWriter`).
 //! - `laws`: laws of the sums of reports.
 #![tactic(auto)]
 
@@ -19,7 +18,6 @@ mod journal;
 pub mod laws;
 mod line;
 mod lot;
-mod output;
 mod reply;
 mod totals;
 
@@ -29,5 +27,4 @@ pub use holdings::{Holdings, ValuedHolding};
 pub use journal::{Entry, Journal, JournalFault};
 pub use line::{PrintFault, print_line, print_texts};
 pub use lot::Valuation;
-pub use output::{CountedWrite, CountedWriter};
 pub use reply::{print_refusal, print_reply};

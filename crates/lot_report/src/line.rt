@@ -1,10 +1,10 @@
 ghost use Rattle.std.specs.Prelude.{◌≡◌, ◌≤◌, length, flat_map, IfOk, IfErr, IsErrOf, IfSome, OnErr, OnOk};
 ghost use Rattle.std.specs.Fmt.{with_newline};
-ghost use Rattle.lot_report.specs.Output.{HasFailed, NoneFailed};
+ghost use Rattle.lot_io.specs.Writes.{HasFailed, NoneFailed};
 ghost use Rattle.lot_report.specs.Written.{IsTaken, WritesLine, longest_written};
 
-use crate::output::CountedWrite;
 use arrayvec::ArrayString;
+use lot_io::CountedWrite;
 use std::alloc::AllocError;
 use std::fmt::{Display, Write as _};
 use std::io::{self, ErrorKind};

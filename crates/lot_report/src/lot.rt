@@ -1,12 +1,12 @@
 ghost use Rattle.std.specs.Prelude.{◌≡◌, IsErrOf, OnOk};
-ghost use Rattle.lot_report.specs.Output.{HasFailed, NoneFailed};
+ghost use Rattle.lot_io.specs.Writes.{HasFailed, NoneFailed};
 ghost use Rattle.lot_report.specs.Printed.{lot_row, price_of};
 ghost use Rattle.lot_report.specs.Written.{WritesLine};
 
 use crate::line::{PrintFault, print_line};
-use crate::output::CountedWrite;
 use lot_base::{Commodity, Label};
 use lot_book::LotKey;
+use lot_io::CountedWrite;
 use lot_num::{Rate, Units, weight};
 use std::alloc::Global;
 use std::fmt;

@@ -1,13 +1,13 @@
 ghost use Rattle.std.specs.Prelude.{◌≡◌, ◌++◌, IfErr, OnErr, OnOk};
-ghost use Rattle.lot_report.specs.Output.{HasFailed, NoneFailed};
+ghost use Rattle.lot_io.specs.Writes.{HasFailed, NoneFailed};
 ghost use Rattle.lot_report.specs.Printed.{argument_text, line, name_text, refusal_text, reply, shown};
 ghost use Rattle.lot_report.specs.Written.{WritesLine};
 
 use crate::line::{PrintFault, print_texts};
-use crate::output::CountedWrite;
 use itoa::Buffer;
 use lot_base::Commodity;
 use lot_book::{Refusal, Verdict};
+use lot_io::CountedWrite;
 
 /// Writes the reply to the command of that number: that it was accepted, that it repeats an entry, or why it was refused.
 ///

@@ -1,15 +1,15 @@
 ghost use Rattle.std.specs.Prelude.{◌≡◌, ◌≢◌, List, [], ◌∷◌, ◌++◌, ℕ, ℤ, ◌+ℤ◌, SomeIff, OnOk, IfErr, IsErrOf};
 ghost use Rattle.lot_num.specs.Amount.{IsWide};
 ghost use Rattle.lot_book.specs.Currencies.{sum_in};
-ghost use Rattle.lot_report.specs.Output.{HasFailed, NoneFailed};
+ghost use Rattle.lot_io.specs.Writes.{HasFailed, NoneFailed};
 ghost use Rattle.lot_report.specs.Printed.{total_of};
 ghost use Rattle.lot_report.specs.Report.{AreSums};
 ghost use Rattle.lot_report.specs.Written.{WritesEach, WritesLine};
 
 use crate::fault::ReportFault;
 use crate::line::{PrintFault, print_line};
-use crate::output::CountedWrite;
 use lot_base::Commodity;
+use lot_io::CountedWrite;
 use lot_num::Wide;
 use std::alloc::Global;
 use std::collections::BTreeMap;

@@ -9,7 +9,7 @@ use Rattle.lot_parts.specs.declared.commands.CommandFault.{CommandFault}
 use Rattle.lot_parts.specs.declared.commands.Next.TheVariants.{Command as NextCommand, End as AtEnd}
 use Rattle.lot_parts.specs.declared.dumped.Dumped.{Dumped}
 use Rattle.lot_parts.specs.declared.step.Sum.{Sum}
-use Rattle.lot_report.specs.Output.{WriteCalls}
+use Rattle.lot_io.specs.Writes.{WriteCalls}
 use Rattle.lot_rows.proofs.StateLemmas.{survives_both}
 use Rattle.lot_table.proofs.MakeLemmas.{keeps_then}
 use Rattle.lot_restore.specs.Restored.{NeverFall}

@@ -13,7 +13,7 @@ use Rattle.sqlite.specs.Tree.{Trees}
 use Rattle.sqlite.specs.declared.error.Error.{Error}
 use Rattle.lot_book.specs.Facts.{Entry}
 use Rattle.lot_load.specs.Kept.{IsOf}
-use Rattle.lot_report.specs.Output.{WriteCalls}
+use Rattle.lot_io.specs.Writes.{WriteCalls}
 use Rattle.lot_store.proofs.ApplyLemmas.{stands_along}
 use Rattle.lot_stored.specs.StandFor.{Left, Stands}
 use Rattle.lot_store.proofs.CommitLemmas.{commit_leaves}

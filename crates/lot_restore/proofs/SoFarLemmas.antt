@@ -27,7 +27,7 @@ use Rattle.lot_store.specs.declared.fault.CreateFault.TheVariants as create
 use Rattle.lot_table.specs.Statement.{DiskFailed}
 use Rattle.lot_table.specs.declared.fault.Fault.{Fault}
 use Rattle.lot_table.specs.declared.fault.Fault.TheVariants as table
-use Rattle.lot_report.specs.Output.{WriteCalls}
+use Rattle.lot_io.specs.Writes.{WriteCalls}
 use Rattle.lot_parts.specs.Commands.{SayAll}
 use Rattle.lot_parts.specs.Dump.{AreParts, Part}
 use Rattle.lot_restore.proofs.PlaceLemmas.{failed_since}

@@ -19,13 +19,13 @@ use Rattle.lot_parts.specs.declared.commands.CommandFault.{CommandFault}
 use Rattle.lot_parts.specs.declared.commands.CommandFault.TheVariants.{Dump as OfDump, Text as OfLine}
 use Rattle.lot_parts.specs.declared.commands.Next.TheVariants.{Command as NextCommand}
 use Rattle.lot_parts.specs.declared.dumped.Dumped.{Dumped}
-use Rattle.lot_report.specs.Output.{WriteCalls}
+use Rattle.lot_io.specs.Writes.{WriteCalls}
 use Rattle.lot_report.specs.Written.{WritesLine}
 use Rattle.lot_report.specs.declared.line.PrintFault.{PrintFault}
 use Rattle.lot_report.specs.declared.line.PrintFault.TheVariants as print
 use Rattle.lot_store.specs.Run.{AppendsSome}
-use Rattle.lot_stream.specs.Calls.{Calls}
-use Rattle.lot_stream.specs.Input.{CallsMade, NoneFailed}
+use Rattle.lot_io.specs.Reads.{ReadCalls, ReadsMade}
+use Rattle.lot_stream.specs.Input.{NoneFailed}
 use Rattle.lot_without.specs.declared.without.Without.{Without}
 use Rattle.lot_restore.specs.Fault.{fault_of_print}
 use Rattle.lot_restore.specs.LeftOut.{kept_of, unmet_of}
@@ -44,12 +44,12 @@ use Rattle.lot_restore.proofs.SoFarLemmas.{kept_more, lines_more, says_rise}
 
 -- ---- the calls of the reader
 
-text_cause_on : (old mid new : Option Calls) (fault : CommandFault) → NoneFailed (between old mid) → HasCauseOf (between mid new) fault
+text_cause_on : (old mid new : Option ReadCalls) (fault : CommandFault) → NoneFailed (between old mid) → HasCauseOf (between mid new) fault
     → HasCauseOf (between old new) fault
 text_cause_on old mid new (OfLine line fault) one more = no_more_fail old mid new one more
 text_cause_on old mid new (OfDump fault) one more = cause_on old mid new fault one more
 
-pub reads_on : {A : Type 0} (old mid new : Option Calls) (result : Result A RestoreFault) → NoneFailed (between old mid) → ReadsIn result (between mid new)
+pub reads_on : {A : Type 0} (old mid new : Option ReadCalls) (result : Result A RestoreFault) → NoneFailed (between old mid) → ReadsIn result (between mid new)
     → ReadsIn result (between old new)
 reads_on old mid new (Ok done) one more = no_more_fail old mid new one more
 reads_on old mid new (Err (Text fault)) one more = text_cause_on old mid new fault one more
@@ -58,7 +58,7 @@ reads_on old mid new (Err (OfSum fault)) one more = no_more_fail old mid new one
 reads_on old mid new (Err Write) one more = no_more_fail old mid new one more
 
 -- a command that isn't judged is read
-pub judge_reads : (A : Type 0) (r : Restoration) (next : Dumped) (s t : State) (calls : Option WriteCalls) (fault : RestoreFault) (old new : Option Calls)
+pub judge_reads : (A : Type 0) (r : Restoration) (next : Dumped) (s t : State) (calls : Option WriteCalls) (fault : RestoreFault) (old new : Option ReadCalls)
     → JudgeFails r next s t calls fault → NoneFailed (between old new) → ReadsIn {A = A} (Err fault) (between old new)
 judge_reads A r next s t calls (Book fault) old new fails none = none
 judge_reads A r next s t calls (Text fault) old new fails none = absurd fails
@@ -66,7 +66,7 @@ judge_reads A r next s t calls (OfSum fault) old new fails none = absurd fails
 judge_reads A r next s t calls Write old new fails none = none
 
 -- nor does what isn't printed say anything of the reader
-pub print_reads : (A : Type 0) (fault : PrintFault) (calls : CallsMade) → NoneFailed calls → ReadsIn {A = A} (Err (fault_of_print fault)) calls
+pub print_reads : (A : Type 0) (fault : PrintFault) (calls : ReadsMade) → NoneFailed calls → ReadsIn {A = A} (Err (fault_of_print fault)) calls
 print_reads A print.Write calls none = none
 print_reads A print.Memory calls none = none
 
@@ -190,7 +190,7 @@ says_anyway (Err fault) P p = p
 
 -- ---- the commit
 
-pub outcome_reads : (how : Restored) (result : Result (Unit {0}) Error) (calls : CallsMade) → NoneFailed calls → ReadsIn (restored_outcome how result) calls
+pub outcome_reads : (how : Restored) (result : Result (Unit {0}) Error) (calls : ReadsMade) → NoneFailed calls → ReadsIn (restored_outcome how result) calls
 outcome_reads how (Ok done) calls none = none
 outcome_reads how (Err (SqliteFailure code.OutOfMemory)) calls none = none
 outcome_reads how (Err other) calls none = none

@@ -24,13 +24,13 @@ use Rattle.lot_parts.specs.declared.compare.SumFault.TheVariants.{WrongCount, Wr
 use Rattle.lot_parts.specs.declared.dumped.Dumped.{Dumped}
 use Rattle.lot_parts.specs.declared.step.Sum.{Sum}
 use Rattle.lot_print.proofs.ReadLemmas.{command_reads, commands_read}
-use Rattle.lot_report.specs.Output.{WriteCalls}
+use Rattle.lot_io.specs.Writes.{WriteCalls}
 use Rattle.lot_rows.specs.Entry.{IsEntryRow}
 use Rattle.lot_rows.specs.Tables.{Tables}
 use Rattle.lot_store.specs.Step.{LeavesTables}
 use Rattle.lot_stored.specs.Rows.{entry_rows}
 use Rattle.lot_stored.specs.StandFor.{StandFor}
-use Rattle.lot_stream.specs.Calls.{counted}
+use Rattle.lot_io.specs.Reads.{counted}
 use Rattle.lot_without.specs.declared.without.Without.{Without}
 use Rattle.lot_without.specs.declared.terms.Strictness.TheVariants.{Unchanged}
 use Rattle.lot_restore.specs.DumpOfBook.{CanBeDumped, GivesBack, HaveNoBlanks, IsGivenBack, MayEndSo, dump_of_book, parts_from}

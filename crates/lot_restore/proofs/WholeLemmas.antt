@@ -15,7 +15,7 @@ use Rattle.lot_parts.specs.Sum.{IsSumOf, SaysOtherwise}
 use Rattle.lot_parts.specs.declared.compare.SumFault.{SumFault}
 use Rattle.lot_parts.specs.declared.dumped.Dumped.{Dumped}
 use Rattle.lot_parts.specs.declared.step.Sum.{Sum}
-use Rattle.lot_report.specs.Output.{WriteCalls}
+use Rattle.lot_io.specs.Writes.{WriteCalls}
 use Rattle.lot_report.specs.Printed.{line}
 use Rattle.lot_report.specs.Written.{WritesLine}
 use Rattle.lot_report.specs.declared.line.PrintFault.{PrintFault}

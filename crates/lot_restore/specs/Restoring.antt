@@ -18,7 +18,7 @@ use Rattle.lot_parts.specs.declared.commands.CommandFault.{CommandFault}
 use Rattle.lot_parts.specs.declared.dumped.Dumped.{Dumped}
 use Rattle.lot_parts.specs.declared.compare.SumFault.{SumFault}
 use Rattle.lot_parts.specs.declared.step.Sum.{Sum}
-use Rattle.lot_report.specs.Output.{HasFailed, WriteCalls}
+use Rattle.lot_io.specs.Writes.{HasFailed, WriteCalls}
 use Rattle.lot_store.specs.Step.{LeavesTables}
 use Rattle.lot_store.specs.declared.fault.CreateFault.TheVariants as create
 use Rattle.lot_stored.specs.StandFor.{Left}

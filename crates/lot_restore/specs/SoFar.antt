@@ -8,7 +8,7 @@ use Rattle.lot_book.specs.declared.verdict.Verdict.{Verdict}
 use Rattle.lot_book.specs.declared.verdict.Verdict.TheVariants.{Accepted, Repeated, Refused as IsRefused}
 use Rattle.lot_load.specs.Kept.{IsOf}
 use Rattle.lot_parts.specs.declared.dumped.Dumped.{Dumped}
-use Rattle.lot_report.specs.Output.{HasFailed, WriteCalls}
+use Rattle.lot_io.specs.Writes.{HasFailed, WriteCalls}
 use Rattle.lot_rows.specs.Tables.{Tables}
 use Rattle.lot_store.specs.declared.fault.CreateFault.TheVariants.{Device, InDoubt, Memory, NotABook}
 use Rattle.lot_table.specs.Statement.{DiskFailed}

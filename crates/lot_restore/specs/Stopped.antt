@@ -7,7 +7,8 @@ use Rattle.lot_parts.specs.Commands.{HasCauseOf, IsReadTo, SayAll, front_text}
 use Rattle.lot_parts.specs.Dump.{Front}
 use Rattle.lot_parts.specs.declared.dumped.Dumped.{Dumped}
 use Rattle.lot_store.specs.Run.{AppendsSome}
-use Rattle.lot_stream.specs.Input.{CallsMade, NoneFailed}
+use Rattle.lot_io.specs.Reads.{ReadsMade}
+use Rattle.lot_stream.specs.Input.{NoneFailed}
 use Rattle.lot_without.specs.declared.without.Without.{Without}
 use Rattle.lot_restore.specs.LeftOut.{is_left_out, kept_of, unmet_of}
 use Rattle.lot_restore.specs.Lines.{unmet_lines, verdict_line, verdict_lines}
@@ -21,7 +22,7 @@ use Rattle.lot_restore.specs.declared.fault.RestoreFault.TheVariants.{Book, Sum 
 -- ---- the calls of the reader
 
 -- Where the text is no dump of commands, or wasn't read, the calls say why; else no call failed.
-abbrev pub ReadsIn : {A : Type 0} → Result A RestoreFault → CallsMade → Type 0
+abbrev pub ReadsIn : {A : Type 0} → Result A RestoreFault → ReadsMade → Type 0
 ReadsIn (Ok done) calls = NoneFailed calls
 ReadsIn (Err (Text fault)) calls = HasCauseOf calls fault
 ReadsIn (Err (Book fault)) calls = NoneFailed calls

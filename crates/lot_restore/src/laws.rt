@@ -9,7 +9,7 @@ ghost use Rattle.lot_book.specs.declared.verdict.Verdict.{Verdict};
 ghost use Rattle.lot_dump.specs.Form.{IsEnd, IsHead};
 ghost use Rattle.lot_dump.specs.declared.end.End.{End};
 ghost use Rattle.lot_parts.specs.Dump.{IsUnchanged, dump_text};
-ghost use Rattle.lot_report.specs.Output.{WriteCalls};
+ghost use Rattle.lot_io.specs.Writes.{WriteCalls};
 ghost use Rattle.lot_rows.specs.Tables.{Tables};
 ghost use Rattle.lot_stored.specs.StandFor.{StandFor};
 ghost use Rattle.lot_restore.specs.DumpOfBook.{CanBeDumped, GivesBack, HaveNoBlanks, IsGivenBack, MayEndSo, dump_of_book};

@@ -1,7 +1,7 @@
 //! The commands of a dump so far, and what came of them.
 ghost use Rattle.std.specs.Prelude.{◌≡◌, ◌++◌, ◌∷◌, [], ℕ, IfErr, IsTrue, List, None, OnErr, OnOk, Option};
 ghost use Rattle.lot_parts.specs.declared.dumped.Dumped.{Dumped as DumpedValue};
-ghost use Rattle.lot_report.specs.Output.{HasFailed, NoneFailed};
+ghost use Rattle.lot_io.specs.Writes.{HasFailed, NoneFailed};
 ghost use Rattle.lot_restore.specs.Restored.{NeverFall};
 ghost use Rattle.lot_restore.specs.SoFar.{JudgeFails, SoFar, refused_with};
 ghost use Rattle.lot_restore.specs.Stopped.{SaysSomeOf};
@@ -13,8 +13,8 @@ use crate::left_out::{is_left_out, meet};
 use crate::restorer::Restorer;
 use crate::said::print_verdict;
 use lot_book::Verdict;
+use lot_io::CountedWrite;
 use lot_parts::Dumped;
-use lot_report::CountedWrite;
 use lot_without::Without;
 use sqlite::{Alter, Transaction};
 use std::alloc::Global;

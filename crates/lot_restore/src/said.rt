@@ -1,14 +1,15 @@
 //! The lines that restoring writes.
 ghost use Rattle.std.specs.Prelude.{◌≡◌, ◌++◌, IfErr, OnErr, OnOk};
-ghost use Rattle.lot_report.specs.Output.{HasFailed, NoneFailed};
+ghost use Rattle.lot_io.specs.Writes.{HasFailed, NoneFailed};
 ghost use Rattle.lot_report.specs.Printed.{line, refusal_text};
 ghost use Rattle.lot_report.specs.Written.{WritesLine};
 ghost use Rattle.lot_restore.specs.Lines.{entry_text, unmet_line, verdict_line};
 
 use itoa::Buffer;
 use lot_book::{Refusal, Verdict};
+use lot_io::CountedWrite;
 use lot_parts::Dumped;
-use lot_report::{CountedWrite, PrintFault, print_refusal, print_texts};
+use lot_report::{PrintFault, print_refusal, print_texts};
 use lot_without::Without;
 
 /// Writes what is said of a command that came to a verdict: nothing where it was accepted. It takes no memory.

@@ -2,7 +2,7 @@
 use Rattle.std.proofs.Common.{◌≡◌, ◌∙◌, List, ℕ, ap, inl, refl}
 use Rattle.std.specs.Prelude.{Option, None, Some, Result, Ok, Err, IsErrAnd, OnErr, OnOk}
 use Rattle.std.specs.declared.io.Error.{Error}
-use Rattle.lot_report.specs.Output.{CountsFlush, HasFailed, NoneFailed, WriteCalls}
+use Rattle.lot_io.specs.Writes.{CountsFlush, HasFailed, NoneFailed, WriteCalls}
 use Rattle.lot_report.specs.declared.line.PrintFault.{PrintFault}
 use Rattle.lot_store.specs.Run.{FlushesLine, IsWrittenOut, IsWrittenOutAs, flush_outcome}
 use Rattle.lot_store.specs.declared.run.Ending.{Ending}

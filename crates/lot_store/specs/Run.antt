@@ -13,7 +13,7 @@ use Rattle.lot_rows.specs.Tables.{Has, Tables}
 use Rattle.lot_stored.specs.StandFor.{Stands}
 use Rattle.std.specs.declared.io.Error.{Error}
 use Rattle.lot_report.specs.declared.line.PrintFault.{PrintFault}
-use Rattle.lot_report.specs.Output.{AllFlushed, HasFailed, WritesMade}
+use Rattle.lot_io.specs.Writes.{AllFlushed, HasFailed, WritesMade}
 use Rattle.lot_report.specs.Printed.{line, replies, reply}
 use Rattle.lot_report.specs.Written.{IsPrefixOf}
 use Rattle.lot_table.specs.Statement.{DiskFailed}

@@ -5,28 +5,29 @@ use Rattle.std.specs.Io.{ReadsAtMost}
 use Rattle.std.specs.Io.KnownBytes.{Consumes, ReadConsumes}
 use Rattle.std.proofs.KnownBytes.{Consumes-kept, Consumes-trans}
 use Rattle.std.specs.declared.io.Error.{Error}
-use Rattle.lot_stream.specs.Calls.{Calls, Counts, CountsCall, GrowsBy, IsCall, ends}
-use Rattle.lot_stream.specs.Input.{CallsMade, EndsFor, EndsWell, NoneFailed, TakesIn, longest_input, most_calls}
+use Rattle.lot_io.proofs.ReadLemmas.{gives, gives_none}
+use Rattle.lot_io.specs.Reads.{Counts, CountsRead, GrowsBy, IsCall, ReadCalls, ReadsMade, ends}
+use Rattle.lot_stream.specs.Input.{EndsFor, EndsWell, NoneFailed, TakesIn, longest_input, most_calls}
 use Rattle.lot_stream.specs.declared.input.Progress.TheVariants.{Ended, Goes}
 use Rattle.lot_stream.specs.declared.input.SlurpFault.{SlurpFault}
 
 -- what calls come to together
-abbrev AreTogether : Calls → Calls → Calls → Type 0
+abbrev AreTogether : ReadCalls → ReadCalls → ReadCalls → Type 0
 AreTogether a b both =
     (both.made ≡ a.made + b.made) × (both.failed ≡ a.failed + b.failed) × (both.ended ≡ a.ended + b.ended) × (both.given ≡ a.given + b.given)
 
-grows_on : (old mid new a b both : Calls) → GrowsBy old mid a → GrowsBy mid new b → AreTogether a b both → GrowsBy old new both
+grows_on : (old mid new a b both : ReadCalls) → GrowsBy old mid a → GrowsBy mid new b → AreTogether a b both → GrowsBy old new both
 grows_on old mid new a b both one two is =
     (omega (arith, one.0, two.0, is.0), omega (arith, one.1, two.1, is.1), omega (arith, one.2, two.2, is.2), omega (arith, one.3, two.3, is.3))
 
 -- no calls were made
-pub none_made : (known : Option Calls) → Counts known known (record { made = 0; failed = 0; ended = 0; given = 0 })
+pub none_made : (known : Option ReadCalls) → Counts known known (record { made = 0; failed = 0; ended = 0; given = 0 })
 none_made None = tt
 none_made (Some calls) = (omega arith, omega arith, omega arith, omega arith)
 
 -- one call more
-one_more : (old mid new : Option Calls) (so_far after : Calls) (outcome : Result ℕ Error) → Counts old mid so_far → CountsCall mid new outcome
-    → ((call : Calls) → IsCall outcome call → AreTogether so_far call after) → Counts old new after
+one_more : (old mid new : Option ReadCalls) (so_far after : ReadCalls) (outcome : Result ℕ Error) → Counts old mid so_far → CountsRead mid new outcome
+    → ((call : ReadCalls) → IsCall outcome call → AreTogether so_far call after) → Counts old new after
 one_more None mid new so_far after outcome counts called together = tt
 one_more (Some old) None new so_far after outcome counts called together = absurd counts
 one_more (Some old) (Some mid) None so_far after outcome counts called together = absurd called
@@ -34,36 +35,26 @@ one_more (Some old) (Some mid) (Some new) so_far after outcome counts (call, is,
     grows_on old mid new so_far call after counts grows (together call is)
 
 -- so many calls gave these bytes, none failed, and none met the end
-abbrev pub so_far : ℕ → List ℕ → Calls
+abbrev pub so_far : ℕ → List ℕ → ReadCalls
 so_far made bytes = record { made = made; failed = 0; ended = 0; given = length bytes }
-
--- a call that gave bytes didn't meet the end
-pub gives : (count : ℕ) → 0 < count → ends count ≡ 0
-gives zero some = absurd (omega (arith, some))
-gives (suc more) some = refl
-
--- one that gave nothing did
-pub gives_none : (count : ℕ) → count ≡ 0 → ends count ≡ 1
-gives_none zero none = refl
-gives_none (suc more) none = absurd (omega (arith, none))
 
 -- a call that didn't fail
 gave : (made next : ℕ) (bytes : List ℕ) (count ended given : ℕ) → next ≡ made + 1 → ends count ≡ ended → given ≡ length bytes + count
-    → (call : Calls) → IsCall (Ok count) call
+    → (call : ReadCalls) → IsCall (Ok count) call
     → AreTogether (so_far made bytes) call (record { made = next; failed = 0; ended = ended; given = given })
 gave made next bytes count ended given at meets is call came =
     (omega (arith, at, came.0), omega (arith, came.1), omega (arith, came.2, meets), omega (arith, is, came.3))
 
 -- a call that was interrupted
 paused : (made next : ℕ) (bytes after : List ℕ) (error : Error) → next ≡ made + 1 → TakesIn bytes bytes (Err error) after (Ok Goes)
-    → (call : Calls) → IsCall (Err error) call → AreTogether (so_far made bytes) call (so_far next after)
+    → (call : ReadCalls) → IsCall (Err error) call → AreTogether (so_far made bytes) call (so_far next after)
 paused made next bytes after error at takes call (one, inl (kind, none), on, nothing) =
     (omega (arith, at, one), omega (arith, none), omega (arith, on), ap length takes.1 ∙ sym (omega (arith, nothing)))
 paused made next bytes after error at takes call (one, inr (kind, failed), on, nothing) = absurd (kind takes.0)
 
 -- a call that failed
 failing : (made next : ℕ) (bytes : List ℕ) (error : Error) → next ≡ made + 1 → TakesIn bytes bytes (Err error) bytes (Err SlurpFault.Read)
-    → (call : Calls) → IsCall (Err error) call → AreTogether (so_far made bytes) call (record { made = next; failed = 1; ended = 0; given = length bytes })
+    → (call : ReadCalls) → IsCall (Err error) call → AreTogether (so_far made bytes) call (record { made = next; failed = 1; ended = 0; given = length bytes })
 failing made next bytes error at takes call (one, inl (kind, none), on, nothing) = absurd (takes kind)
 failing made next bytes error at takes call (one, inr (kind, failed), on, nothing) =
     (omega (arith, at, one), omega (arith, failed), omega (arith, on), omega (arith, nothing))
@@ -73,9 +64,9 @@ lengths : (bytes chunk after : List ℕ) (count : ℕ) → count ≡ length (tak
 lengths bytes chunk after count is so =
     ap length so ∙ length-append bytes (take count chunk) ∙ ap (λ n. length bytes + n) (sym is)
 
-module _ (old mid new : Option Calls) (bytes chunk : List ℕ) (made next : ℕ) (counts : Counts old mid (so_far made bytes)) (at : next ≡ made + 1) where
+module _ (old mid new : Option ReadCalls) (bytes chunk : List ℕ) (made next : ℕ) (counts : Counts old mid (so_far made bytes)) (at : next ≡ made + 1) where
   -- reading goes on
-  pub call_goes : (outcome : Result ℕ Error) (after : List ℕ) → CountsCall mid new outcome → ReadsAtMost outcome chunk
+  pub call_goes : (outcome : Result ℕ Error) (after : List ℕ) → CountsRead mid new outcome → ReadsAtMost outcome chunk
       → TakesIn bytes chunk outcome after (Ok Goes) → Counts old new (so_far next after)
   call_goes (Ok count) after called bound takes =
       one_more old mid new (so_far made bytes) (so_far next after) (Ok count) counts called
@@ -84,7 +75,7 @@ module _ (old mid new : Option Calls) (bytes chunk : List ℕ) (made next : ℕ)
       one_more old mid new (so_far made bytes) (so_far next after) (Err error) counts called (paused made next bytes after error at takes)
 
   -- the reader is at its end
-  pub call_ends : (outcome : Result ℕ Error) (after : List ℕ) → CountsCall mid new outcome → TakesIn bytes chunk outcome after (Ok Ended)
+  pub call_ends : (outcome : Result ℕ Error) (after : List ℕ) → CountsRead mid new outcome → TakesIn bytes chunk outcome after (Ok Ended)
       → next ≤ most_calls → EndsWell (record { before = old; after = new }) (length after)
   call_ends (Ok count) after called takes few = (
     record { made = next; failed = 0; ended = 1; given = length after },
@@ -98,7 +89,7 @@ module _ (old mid new : Option Calls) (bytes chunk : List ℕ) (made next : ℕ)
   call_ends (Err error) after called takes few = absurd takes
 
   -- reading ends at a fault
-  pub call_stops : (outcome : Result ℕ Error) (after : List ℕ) (fault : SlurpFault) → CountsCall mid new outcome
+  pub call_stops : (outcome : Result ℕ Error) (after : List ℕ) (fault : SlurpFault) → CountsRead mid new outcome
       → TakesIn bytes chunk outcome after (Err fault) → length bytes ≤ longest_input → next ≤ most_calls
       → EndsFor (record { before = old; after = new }) fault
   call_stops (Ok count) after SlurpFault.Read called takes short few = absurd takes
@@ -138,19 +129,19 @@ bytes_go old mid new bytes chunk (Err error) after before short now bound takes 
     (subst (Consumes old new) (sym takes.1) (Consumes-kept old mid new bytes before now), subst (λ (bs : List ℕ). length bs ≤ longest_input) (sym takes.1) short)
 
 -- as many calls were made as may be
-pub called_out : (old mid : Option Calls) (bytes : List ℕ) (made : ℕ) → Counts old mid (so_far made bytes) → length bytes ≤ longest_input
+pub called_out : (old mid : Option ReadCalls) (bytes : List ℕ) (made : ℕ) → Counts old mid (so_far made bytes) → length bytes ≤ longest_input
     → made ≡ most_calls → EndsFor (record { before = old; after = mid }) SlurpFault.Read
 called_out old mid bytes made counts short all = (so_far made bytes, counts, omega (arith, all), (inr (refl, all), refl, short))
 
 -- no memory before the first call
-pub no_room : (known : Option Calls) → EndsFor (record { before = known; after = known }) SlurpFault.Memory
+pub no_room : (known : Option ReadCalls) → EndsFor (record { before = known; after = known }) SlurpFault.Memory
 no_room known = (record { made = 0; failed = 0; ended = 0; given = 0 }, none_made known, omega arith, (refl, refl, omega arith))
 
-pub for_fault : {A : Type 0} (all : CallsMade) (fault : SlurpFault) (result : Result A SlurpFault)
+pub for_fault : {A : Type 0} (all : ReadsMade) (fault : SlurpFault) (result : Result A SlurpFault)
     → IsErrAnd result (λ e. e ≡ fault) → EndsFor all fault → IfErr result (EndsFor all)
 for_fault all fault (Ok x) is ends = tt
 for_fault all fault (Err e) is ends = rw (is) ends
 
 -- all was read, so no call failed
-pub ended_well : (all : CallsMade) (count : ℕ) → EndsWell all count → NoneFailed all
+pub ended_well : (all : ReadsMade) (count : ℕ) → EndsWell all count → NoneFailed all
 ended_well all count (calls, counts, few, none, met, given) = (calls, counts, none)

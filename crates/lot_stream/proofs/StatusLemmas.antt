@@ -2,7 +2,7 @@
 use Rattle.std.proofs.Common.{◌≡◌, ap, inl, inr, refl}
 use Rattle.std.specs.Prelude.{Option, None, Some, Result, Ok, Err}
 use Rattle.std.specs.declared.io.Error.{Error}
-use Rattle.lot_report.specs.Output.{CountsFlush, WriteCalls}
+use Rattle.lot_io.specs.Writes.{CountsFlush, WriteCalls}
 use Rattle.lot_stream.specs.Status.{Ends, EndsIfFailed, after_flush}
 use Rattle.lot_stream.specs.declared.status.Status.{Status}
 

@@ -3,7 +3,7 @@ use Rattle.std.specs.Prelude.{◌≡◌, ◌≢◌, ◌⊎◌, ℕ, ◌+◌, ◌
 use Rattle.std.specs.IoError.{error_kind}
 use Rattle.std.specs.declared.io.Error.{Error}
 use Rattle.std.specs.declared.io.ErrorKind.{ErrorKind}
-use Rattle.lot_stream.specs.Calls.{Calls, Counts}
+use Rattle.lot_io.specs.Reads.{Counts, ReadCalls, ReadsMade}
 use Rattle.lot_stream.specs.declared.input.Progress.{Progress}
 use Rattle.lot_stream.specs.declared.input.Progress.TheVariants.{Ended, Goes}
 use Rattle.lot_stream.specs.declared.input.SlurpFault.{SlurpFault}
@@ -47,34 +47,25 @@ TookBefore Memory count = count ≤ longest_input
 
 -- ---- why reading ends, by what its calls came to
 
--- what is known of all calls of a reader before some were made, and after them
-pub record CallsMade : Type 0 where
-  pub before : Option Calls
-  pub after : Option Calls
-
--- the calls between the two
-abbrev pub reads_between : Option Calls → Option Calls → CallsMade
-reads_between before after = record { before = before; after = after }
-
 -- The cause of a fault, which comes before a call met the end. The reader can't be read: a call failed, the last one, or as
 -- many were made as may be; and no more bytes came than may. It is too long: more came, and no call failed. Memory ended:
 -- neither is so.
-abbrev pub IsCause : SlurpFault → Calls → Type 0
+abbrev pub IsCause : SlurpFault → ReadCalls → Type 0
 IsCause Read calls =
     ((calls.failed ≡ 1) ⊎ ((calls.failed ≡ 0) × (calls.made ≡ most_calls))) × (calls.ended ≡ 0) × (calls.given ≤ longest_input)
 IsCause TooLong calls = (calls.failed ≡ 0) × (calls.ended ≡ 0) × (longest_input < calls.given)
 IsCause Memory calls = (calls.failed ≡ 0) × (calls.ended ≡ 0) × (calls.given ≤ longest_input)
 
 -- calls were made until that fault, for its cause
-abbrev pub EndsFor : CallsMade → SlurpFault → Type 0
-EndsFor all fault = (calls : Calls) × Counts all.before all.after calls × (calls.made ≤ most_calls) × IsCause fault calls
+abbrev pub EndsFor : ReadsMade → SlurpFault → Type 0
+EndsFor all fault = (calls : ReadCalls) × Counts all.before all.after calls × (calls.made ≤ most_calls) × IsCause fault calls
 
 -- calls were made until the reader was at its end: none failed, one met the end, and they gave so many bytes
-abbrev pub EndsWell : CallsMade → ℕ → Type 0
+abbrev pub EndsWell : ReadsMade → ℕ → Type 0
 EndsWell all count =
-    (calls : Calls) × Counts all.before all.after calls × (calls.made ≤ most_calls)
+    (calls : ReadCalls) × Counts all.before all.after calls × (calls.made ≤ most_calls)
     × (calls.failed ≡ 0) × (calls.ended ≡ 1) × (calls.given ≡ count)
 
 -- calls were made of which none failed
-abbrev pub NoneFailed : CallsMade → Type 0
-NoneFailed all = (calls : Calls) × Counts all.before all.after calls × (calls.failed ≡ 0)
+abbrev pub NoneFailed : ReadsMade → Type 0
+NoneFailed all = (calls : ReadCalls) × Counts all.before all.after calls × (calls.failed ≡ 0)

@@ -7,7 +7,7 @@ use Rattle.lot_stream.specs.declared.input.SlurpFault.{SlurpFault}
 use Rattle.lot_read.specs.declared.fault.TextFault.{TextFault}
 use Rattle.lot_report.specs.declared.fault.ReportFault.{ReportFault}
 use Rattle.lot_report.specs.declared.line.PrintFault.{PrintFault}
-use Rattle.lot_report.specs.Output.{HasFailed, IsFlushed, NoneFailed, WriteCalls, WritesMade}
+use Rattle.lot_io.specs.Writes.{HasFailed, IsFlushed, NoneFailed, WriteCalls, WritesMade}
 use Rattle.lot_stream.specs.declared.status.Status.{Status}
 use Rattle.lot_stream.specs.declared.status.Status.TheVariants.{Accepted, Refused, BadInput, Stopped}
 

@@ -1,14 +1,15 @@
 ghost use Rattle.std.specs.Prelude.{◌≡◌, IfErr, OnErr, OnOk};
 ghost use Rattle.lot_stream.specs.FaultLine.{fault_line, name_text};
 ghost use Rattle.lot_stream.specs.Status.{status_of};
-ghost use Rattle.lot_report.specs.Output.{HasFailed, NoneFailed};
+ghost use Rattle.lot_io.specs.Writes.{HasFailed, NoneFailed};
 ghost use Rattle.lot_report.specs.Written.{WritesLine};
 
 use crate::input::SlurpFault;
 use crate::status::Status;
 use itoa::Buffer;
+use lot_io::CountedWrite;
 use lot_read::{LineFault, TextFault};
-use lot_report::{CountedWrite, PrintFault, ReportFault, print_texts};
+use lot_report::{PrintFault, ReportFault, print_texts};
 use std::alloc::AllocError;
 use thiserror::Error;
 

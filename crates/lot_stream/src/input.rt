@@ -1,9 +1,10 @@
 ghost use Rattle.std.specs.Prelude.{◌≡◌, ◌≢◌, ◌<◌, ◌≤◌, ◌+◌, ◌++◌, ◌↔◌, ℕ, List, length, vec_len, IfOk, IfErr, IfSome, OnOk, IsErrOf};
 ghost use Rattle.std.specs.Io.{ReadsAtMost};
 ghost use Rattle.std.specs.Io.KnownBytes.{Consumes, IsAtEnd};
-ghost use Rattle.lot_stream.specs.Input.{EndsFor, EndsWell, TakesIn, TookBefore, chunk_size, longest_input, reads_between};
+ghost use Rattle.lot_io.specs.Reads.{reads_between};
+ghost use Rattle.lot_stream.specs.Input.{EndsFor, EndsWell, TakesIn, TookBefore, chunk_size, longest_input};
 
-use crate::calls::CountedRead;
+use lot_io::CountedRead;
 use std::alloc::{AllocError, Global};
 use std::io::{self, ErrorKind};
 use thiserror::Error;

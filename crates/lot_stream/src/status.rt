@@ -1,9 +1,10 @@
 ghost use Rattle.std.specs.Prelude.{◌≡◌, IsErr};
 ghost use Rattle.std.specs.Io.KnownBytes.{Keeps};
 ghost use Rattle.lot_stream.specs.Status.{Ends, EndsIfFailed, IsStatus, after_flush, code_of, status_after};
-ghost use Rattle.lot_report.specs.Output.{writes_between};
+ghost use Rattle.lot_io.specs.Writes.{writes_between};
 
-use lot_report::{CountedWrite, PrintFault};
+use lot_io::CountedWrite;
+use lot_report::PrintFault;
 use std::io;
 
 /// The status of a call that did what was asked for, or showed it.

@@ -4,11 +4,11 @@ ghost use Rattle.std.specs.Prelude.{◌≡◌, IsNone, IsSome, None, Some};
 ghost use Rattle.std.specs.Io.{ReadsAtMost};
 ghost use Rattle.std.specs.Io.KnownBytes.{ReadConsumes};
 ghost use Rattle.lot_output.specs.Record.{held};
-ghost use Rattle.lot_stream.specs.Calls.{CountsCall};
-ghost use Rattle.lot_stream.specs.Counted.{counts_of, reader_of};
+ghost use Rattle.lot_io.specs.Reads.{CountsRead};
+ghost use Rattle.lot_io.specs.Reader.{counts_of, reader_of};
 
+use lot_io::{CountedRead, CountedReader};
 use lot_output::Kept;
-use lot_stream::{Counted, CountedRead};
 use std::alloc::Global;
 use std::io::{self, Read};
 
@@ -28,7 +28,7 @@ pub enum Keep {
 /// A reader that keeps what was read.
 #[derive(Drop)]
 pub struct Keeper<R> {
-    reader: Counted<R>,
+    reader: CountedReader<R>,
     pub kept: Kept,
     /// What is set aside.
     room: Option<Vec<u8>>,
@@ -49,7 +49,7 @@ impl<R> Keeper<R> {
             Keep::Nothing | Keep::TakenBack => Kept { bytes: None },
         };
         Keeper {
-            reader: Counted::new(reader),
+            reader: CountedReader::new(reader),
             kept,
             room,
         }
@@ -73,7 +73,7 @@ impl<R: Read> CountedRead for Keeper<R> {
         ensures bound { ReadsAtMost result chunk.new }
         ensures bytes { ReadConsumes (R.remaining (reader_of self.old.reader))
             (R.remaining (reader_of self.new.reader)) result chunk.new }
-        ensures calls { CountsCall (Some (counts_of self.old.reader))
+        ensures calls { CountsRead (Some (counts_of self.old.reader))
             (Some (counts_of self.new.reader)) result }
         ensures kept { self.new.kept ≡ self.old.kept }
     {

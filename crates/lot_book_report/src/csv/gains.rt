@@ -2,13 +2,14 @@ ghost use Rattle.std.specs.Prelude.{ℕ, List};
 ghost use Rattle.lot_book_report.specs.Csv.{ShowsAllSalesCsv, ShowsGainsCsv, ShowsSomeGainsCsv, records_of_sale};
 ghost use Rattle.lot_book_report.specs.Fault.{HasCause};
 ghost use Rattle.lot_book_report.specs.Show.{HoldsOfBook, HoldsOfTables, ReadsBook};
-ghost use Rattle.lot_report.specs.Output.{writes_between};
+ghost use Rattle.lot_io.specs.Writes.{writes_between};
 
 use super::{Records, write_csv};
 use crate::fault::ShowFault;
 use lot_base::Day;
 use lot_csv::{Seller, gains_header, write_sale};
-use lot_report::{CountedWrite, PrintFault};
+use lot_io::CountedWrite;
+use lot_report::PrintFault;
 use lot_store::Book;
 use lot_walk::NumberedSale;
 use sqlite::Alter;

@@ -4,7 +4,7 @@ ghost use Rattle.lot_book_report.specs.Fault.{HasCause};
 ghost use Rattle.lot_book_report.specs.Holdings.{valued_with};
 ghost use Rattle.lot_book_report.specs.Show.{HoldsOfBook, HoldsOfTables, ReadsBook};
 ghost use Rattle.lot_csv.specs.Holdings.{holdings_header};
-ghost use Rattle.lot_report.specs.Output.{writes_between};
+ghost use Rattle.lot_io.specs.Writes.{writes_between};
 
 use super::{Records, write_csv};
 use crate::fault::ShowFault;
@@ -13,7 +13,8 @@ use crate::prices::DayPrices;
 use lot_base::Day;
 use lot_book::Holding;
 use lot_csv::{Columns, holdings_header, write_holding};
-use lot_report::{CountedWrite, PrintFault};
+use lot_io::CountedWrite;
+use lot_report::PrintFault;
 use lot_store::Book;
 use sqlite::Alter;
 use std::alloc::Global;

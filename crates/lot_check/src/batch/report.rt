@@ -1,12 +1,13 @@
 ghost use Rattle.std.specs.Prelude.{◌≡◌, ◌≢◌, List, ℕ, Option, IfOk, IsErrOf, IsFalse, OnOk};
 ghost use Rattle.std.specs.Io.KnownBytes.{Appends};
 ghost use Rattle.lot_check.specs.Way.{in_row};
-ghost use Rattle.lot_report.specs.Output.{HasFailed, NoneFailed};
+ghost use Rattle.lot_io.specs.Writes.{HasFailed, NoneFailed};
 ghost use Rattle.lot_report.specs.declared.holdings.ValuedHolding.{ValuedHolding as Row};
 ghost use Rattle.lot_report.specs.Holdings.{EndsHoldings, GrowsByHolding, IsFed, WritesReport, is_spent, rows_text, unvalued, unvalued_row};
 
 use lot_book::Holding;
-use lot_report::{CountedWrite, Holdings, ReportFault, RowFault, Valuation, ValuedHolding};
+use lot_io::CountedWrite;
+use lot_report::{Holdings, ReportFault, RowFault, Valuation, ValuedHolding};
 use std::alloc::Global;
 
 /// Writes the report of what is held, without values: a line for each row, in the order in which they are given, then what the

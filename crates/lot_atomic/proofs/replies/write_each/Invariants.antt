@@ -1,5 +1,5 @@
 use Rattle.std.proofs.Common.{take}
-use Rattle.lot_report.specs.Output.{NoneFailed}
+use Rattle.lot_io.specs.Writes.{NoneFailed}
 use Rattle.lot_atomic.specs.Replies.{RepliesAll}
 use Rattle.lot_atomic.proofs.replies.write_each.Given as goal
 

@@ -2,7 +2,7 @@
 -- no call of the writer failed.
 use Rattle.std.proofs.Common.{◌≡◌, ◌≢◌}
 use Rattle.std.specs.Prelude.{IfSome}
-use Rattle.lot_report.specs.Output.{NoneFailed}
+use Rattle.lot_io.specs.Writes.{NoneFailed}
 use Rattle.lot_book_report.proofs.CsvLemmas.{Wrote}
 use Rattle.lot_book_report.proofs.ReadLemmas.{IsRead}
 use Rattle.lot_store.specs.declared.book.Condition.TheVariants.{NeedsReopen}

@@ -1,7 +1,7 @@
 -- The holdings that the walk has given are fed to the report, the book was read without a fault, and no call of the writer failed.
 use Rattle.std.proofs.Common.{◌≡◌, ◌≢◌, ◌<◌, IsFalse}
 use Rattle.lot_report.specs.Holdings.{HasTaken, IsEnd, fits, is_spent, row_lines}
-use Rattle.lot_report.specs.Output.{NoneFailed}
+use Rattle.lot_io.specs.Writes.{NoneFailed}
 use Rattle.lot_book_report.proofs.FeedLemmas.{Feeds}
 use Rattle.lot_book_report.proofs.ReadLemmas.{IsReading}
 use Rattle.lot_book_report.specs.Holdings.{valued_with}

@@ -1,7 +1,7 @@
 -- The entries that the walk has given are written and heard, the book was read without a fault, and no call of the writer failed.
 use Rattle.std.proofs.Common.{◌≡◌, ◌≢◌, ◌<◌, IsFalse}
 use Rattle.lot_report.specs.Journal.{is_spent}
-use Rattle.lot_report.specs.Output.{NoneFailed}
+use Rattle.lot_io.specs.Writes.{NoneFailed}
 use Rattle.lot_book_report.proofs.JournalLemmas.{HasWritten}
 use Rattle.lot_book_report.proofs.ReadLemmas.{IsReading}
 use Rattle.lot_store.specs.declared.book.Condition.TheVariants.{NeedsReopen}

@@ -1,4 +1,4 @@
-use Rattle.lot_report.specs.Output.{NoneFailed}
+use Rattle.lot_io.specs.Writes.{NoneFailed}
 use Rattle.lot_check.proofs.RunLemmas.{RanSoFar}
 use Rattle.lot_check.proofs.batch.run.Given as goal
 

@@ -5,7 +5,7 @@ use Rattle.sqlite.specs.Held.{state}
 use Rattle.lot_args.specs.declared.action.Keeping.{Keeping}
 use Rattle.lot_args.specs.declared.action.Keeping.TheVariants.{AllOrNone, Each}
 use Rattle.lot_atomic.specs.Replies.{RunsAll}
-use Rattle.lot_report.specs.Output.{WritesMade}
+use Rattle.lot_io.specs.Writes.{WritesMade}
 use Rattle.lot_stream.specs.Status.{code_of}
 use Rattle.lot_cli.specs.Runs.{RunsOn}
 use Rattle.lot_cli.proofs.RunLemmas.{left_alone, runs_each}

@@ -3,7 +3,7 @@ use Rattle.std.specs.Option.{option_copied}
 use Rattle.sqlite.specs.Held.{state}
 use Rattle.lot_command.specs.declared.command.Command.{Command}
 use Rattle.lot_command.specs.declared.key.Key.{Key}
-use Rattle.lot_report.specs.Output.{AllFlushed, IsFlushed}
+use Rattle.lot_io.specs.Writes.{AllFlushed, IsFlushed}
 use Rattle.lot_store.specs.declared.book.Condition.TheVariants.{Ready}
 use Rattle.lot_cli.proofs.StretchLemmas.{Done}
 use Rattle.lot_cli.proofs.run.run_stretches.Given as goal

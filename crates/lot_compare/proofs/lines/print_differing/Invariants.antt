@@ -1,4 +1,4 @@
-use Rattle.lot_report.specs.Output.{NoneFailed}
+use Rattle.lot_io.specs.Writes.{NoneFailed}
 use Rattle.lot_compare.proofs.LineLemmas.{LinesSoFar}
 use Rattle.lot_compare.proofs.lines.print_differing.Given as goal
 

@@ -1,7 +1,7 @@
 use Rattle.std.specs.Prelude.{ℤ}
 use Rattle.std.proofs.Common.{drop}
 use Rattle.lot_cost.specs.declared.lot_key.LotKey.{LotKey}
-use Rattle.lot_report.specs.Output.{NoneFailed}
+use Rattle.lot_io.specs.Writes.{NoneFailed}
 use Rattle.lot_report.proofs.EachLemmas.{EachSoFar}
 use Rattle.lot_csv.specs.Gains.{lot_record}
 use Rattle.lot_csv.proofs.gains.write_alike.Given as goal

@@ -2,7 +2,7 @@ use Rattle.std.specs.Prelude.{ℤ, Some, zip}
 use Rattle.std.specs.Iterator.Adapters.{zip_first, zip_second}
 use Rattle.std.specs.Slice.Iter.{iter_rest}
 use Rattle.lot_cost.specs.declared.lot_key.LotKey.{LotKey}
-use Rattle.lot_report.specs.Output.{NoneFailed}
+use Rattle.lot_io.specs.Writes.{NoneFailed}
 use Rattle.lot_report.proofs.EachLemmas.{EachSoFar}
 use Rattle.lot_csv.specs.Gains.{lot_record}
 use Rattle.lot_csv.specs.declared.shares.LotPrice.TheVariants.{Share}

@@ -1,6 +1,6 @@
 use Rattle.std.proofs.Common.{drop}
 use Rattle.lot_report.specs.Gains.{leg_line}
-use Rattle.lot_report.specs.Output.{NoneFailed}
+use Rattle.lot_io.specs.Writes.{NoneFailed}
 use Rattle.lot_report.proofs.EachLemmas.{EachSoFar}
 use Rattle.lot_report.proofs.gains.print_legs.Given as goal
 

@@ -1,5 +1,5 @@
-use Rattle.lot_report.specs.Output.{NoneFailed}
-use Rattle.lot_report.proofs.OutputLemmas.{AtLeast}
+use Rattle.lot_io.specs.Writes.{NoneFailed}
+use Rattle.lot_io.specs.Writes.{AtLeast}
 use Rattle.lot_report.proofs.PrintLemmas.{IsWrittenTo}
 use Rattle.lot_report.proofs.line.put.Given as goal
 

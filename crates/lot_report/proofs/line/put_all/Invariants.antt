@@ -1,5 +1,5 @@
 use Rattle.std.proofs.Common.{drop}
-use Rattle.lot_report.specs.Output.{NoneFailed}
+use Rattle.lot_io.specs.Writes.{NoneFailed}
 use Rattle.lot_report.proofs.EachLemmas.{EachSoFar}
 use Rattle.lot_report.proofs.line.put_all.Given as goal
 

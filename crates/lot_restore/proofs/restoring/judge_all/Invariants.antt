@@ -1,6 +1,6 @@
 use Rattle.std.proofs.Common.{◌≡◌}
 use Rattle.sqlite.specs.Held.{state}
-use Rattle.lot_report.specs.Output.{NoneFailed}
+use Rattle.lot_io.specs.Writes.{NoneFailed}
 use Rattle.lot_stream.specs.Input.{NoneFailed as NoneFailedToRead}
 use Rattle.lot_restore.proofs.LoopLemmas.{GoneOn, Unbroken}
 use Rattle.lot_restore.proofs.restoring.judge_all.Given as goal

@@ -1,5 +1,5 @@
 use Rattle.std.proofs.Common.{drop}
-use Rattle.lot_report.specs.Output.{NoneFailed}
+use Rattle.lot_io.specs.Writes.{NoneFailed}
 use Rattle.lot_report.proofs.EachLemmas.{EachSoFar}
 use Rattle.lot_restore.specs.Lines.{unmet_line}
 use Rattle.lot_restore.proofs.restoring.print_all_unmet.Given as goal

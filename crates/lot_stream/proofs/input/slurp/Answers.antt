@@ -3,7 +3,7 @@ use native.Mathlib.Omega.{arith}
 use Rattle.std.specs.Io.{ReadsAtMost}
 use Rattle.std.specs.Io.KnownBytes.{ReadConsumes}
 use Rattle.std.specs.Prelude.{Ok}
-use Rattle.lot_stream.specs.Calls.{Counts}
+use Rattle.lot_io.specs.Reads.{Counts}
 use Rattle.lot_stream.specs.Input.{EndsWell, TakesIn}
 use Rattle.lot_stream.specs.declared.input.Progress.{Progress}
 use Rattle.lot_stream.specs.declared.input.SlurpFault.{SlurpFault}

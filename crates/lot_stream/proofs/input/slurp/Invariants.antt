@@ -2,7 +2,7 @@
 use Rattle.std.proofs.Common.{◌≡◌, ◌≤◌, vec_len}
 use Rattle.std.specs.Io.KnownBytes.{Consumes}
 use Rattle.lot_stream.proofs.CallLemmas.{so_far}
-use Rattle.lot_stream.specs.Calls.{Counts}
+use Rattle.lot_io.specs.Reads.{Counts}
 use Rattle.lot_stream.specs.Input.{chunk_size, longest_input}
 use Rattle.lot_stream.proofs.input.slurp.Given as goal
 

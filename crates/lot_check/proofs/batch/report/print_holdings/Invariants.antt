@@ -1,4 +1,4 @@
-use Rattle.lot_report.specs.Output.{NoneFailed}
+use Rattle.lot_io.specs.Writes.{NoneFailed}
 use Rattle.lot_check.proofs.ReportLemmas.{SoFar}
 use Rattle.lot_check.proofs.batch.report.print_holdings.Given as goal
 

@@ -2,7 +2,7 @@
 use Rattle.std.proofs.Common.{◌≡◌, ◌≤◌, ◌+◌, vec_len}
 use Rattle.std.specs.Io.KnownBytes.{Consumes, prepend_known}
 use Rattle.lot_syntax.specs.Line.{IsLine}
-use Rattle.lot_stream.specs.Calls.{counted}
+use Rattle.lot_io.specs.Reads.{counted}
 use Rattle.lot_stream.specs.Input.{NoneFailed}
 use Rattle.lot_dump.proofs.LineLemmas.{between}
 use Rattle.lot_parts.specs.Dump.{IsLedger}

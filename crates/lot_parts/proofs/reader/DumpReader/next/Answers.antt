@@ -5,7 +5,7 @@ use Rattle.std.proofs.lemmas.Result.{err_from_is_err_and}
 use Rattle.sha2.specs.Hashers.{Holds256}
 use Rattle.sha2.specs.declared.Sha256.{Sha256}
 use Rattle.lot_report.specs.Printed.{line}
-use Rattle.lot_stream.specs.Calls.{counted}
+use Rattle.lot_io.specs.Reads.{counted}
 use Rattle.lot_dump.specs.Form.{IsHeading, heading_text}
 use Rattle.lot_dump.specs.declared.heading.Heading.{Heading}
 use Rattle.lot_parts.specs.Reading.{Reading}

@@ -1,4 +1,4 @@
-use Rattle.lot_report.specs.Output.{NoneFailed}
+use Rattle.lot_io.specs.Writes.{NoneFailed}
 use Rattle.lot_report.specs.Printed.{total_of}
 use Rattle.lot_report.proofs.EachLemmas.{EachSoFar}
 use Rattle.lot_report.proofs.totals.Totals.print.Given as goal

@@ -4,7 +4,7 @@ use Rattle.sqlite.specs.Held.{state}
 use Rattle.lot_command.specs.declared.command.Command.{Command}
 use Rattle.lot_command.specs.declared.key.Key.{Key}
 use Rattle.lot_load.specs.Kept.{IsOf}
-use Rattle.lot_report.specs.Output.{AllFlushed, IsFlushed}
+use Rattle.lot_io.specs.Writes.{AllFlushed, IsFlushed}
 use Rattle.lot_store.specs.declared.book.Condition.TheVariants.{Ready}
 use Rattle.lot_store.proofs.RunLemmas.{Any, SoFar}
 use Rattle.lot_store.proofs.book.Book.run.Given as goal

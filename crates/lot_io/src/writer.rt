@@ -1,8 +1,8 @@
 ghost use Rattle.std.specs.Prelude.{◌≡◌, ◌<◌, ℕ, List, length, Option, None, Some};
 ghost use Rattle.std.specs.Io.{WritesAtMost};
 ghost use Rattle.std.specs.Io.KnownBytes.{Keeps, WriteAppends};
-ghost use Rattle.lot_report.specs.CountedWriter.{calls_of, writer_of};
-ghost use Rattle.lot_report.specs.Output.{CountsFlush, CountsWrite, WriteCalls, no_calls};
+ghost use Rattle.lot_io.specs.Writer.{calls_of, writer_of};
+ghost use Rattle.lot_io.specs.Writes.{CountsFlush, CountsWrite, WriteCalls, no_writes};
 
 use std::io::{self, ErrorKind, Write};
 
@@ -60,7 +60,7 @@ impl<W> CountedWriter<W> {
     /// Returns a counted writer over this one. No call is counted yet.
     pub fn new(writer: W) -> CountedWriter<W>
         ensures writer { writer_of result ≡ writer }
-        ensures calls { calls_of result ≡ no_calls }
+        ensures calls { calls_of result ≡ no_writes }
     {
         CountedWriter {
             writer,

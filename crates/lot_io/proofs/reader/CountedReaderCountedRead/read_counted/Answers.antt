@@ -4,9 +4,9 @@ use Rattle.std.specs.IoError.{error_kind}
 use Rattle.std.specs.Prelude.{Result}
 use Rattle.std.specs.declared.io.Error.{Error}
 use Rattle.std.specs.declared.io.ErrorKind.{ErrorKind}
-use Rattle.lot_stream.specs.Calls.{IsCall}
-use Rattle.lot_stream.proofs.CallLemmas.{gives, gives_none}
-use Rattle.lot_stream.proofs.calls.CountedCountedRead.read_counted.Goals as goal
+use Rattle.lot_io.specs.Reads.{IsCall}
+use Rattle.lot_io.proofs.ReadLemmas.{gives, gives_none}
+use Rattle.lot_io.proofs.reader.CountedReaderCountedRead.read_counted.Goals as goal
 
 pub returns-in-Ok-eq0-clause-calls : goal.returns-in-Ok-eq0-clause-calls
 returns-in-Ok-eq0-clause-calls g c =

@@ -1,27 +1,27 @@
 ghost use Rattle.std.specs.Prelude.{◌≡◌, ℕ, List, Option, None, Some};
 ghost use Rattle.std.specs.Io.{ReadsAtMost};
 ghost use Rattle.std.specs.Io.KnownBytes.{ReadConsumes};
-ghost use Rattle.lot_stream.specs.Calls.{Calls, CountsCall, no_calls};
-ghost use Rattle.lot_stream.specs.Counted.{counts_of, reader_of};
+ghost use Rattle.lot_io.specs.Reads.{ReadCalls, CountsRead, no_reads};
+ghost use Rattle.lot_io.specs.Reader.{counts_of, reader_of};
 
 use std::io::{self, ErrorKind, Read};
 
 /// A reader whose calls may be counted: how many were made, how many failed, how many met the end, and how many bytes they
 /// gave.
 ///
-/// Every reader is one without such counts. A `Counted` has them.
+/// Every reader is one without such counts. A `CountedReader` has them.
 pub trait CountedRead {
     // The bytes that calls will give from here on, where they are known.
     ghost remaining: { Self → Option (List ℕ) };
 
     // What all calls came to so far, where that is known.
-    ghost calls: { Self → Option Calls };
+    ghost calls: { Self → Option ReadCalls };
 
     /// Makes one call of `read`, which puts the bytes that it gives at the start of the chunk.
     fn read_counted(&mut self, chunk: &mut [u8]) -> io::Result<usize>
         ensures bound { ReadsAtMost result chunk.new }
         ensures bytes { ReadConsumes (remaining self.old) (remaining self.new) result chunk.new }
-        ensures calls { CountsCall (calls self.old) (calls self.new) result };
+        ensures calls { CountsRead (calls self.old) (calls self.new) result };
 
     /// Takes back the bytes that were read of it, once they are read as a text. A reader that keeps none lets them go.
     fn take_back(&mut self, bytes: Vec<u8>)
@@ -43,7 +43,7 @@ impl<R: Read> CountedRead for R {
 
 /// A reader whose calls are counted. A count stops at `u64::MAX`.
 #[derive(Drop)]
-pub struct Counted<R> {
+pub struct CountedReader<R> {
     reader: R,
     /// How many calls were made.
     made: u64,
@@ -55,13 +55,13 @@ pub struct Counted<R> {
     given: u64,
 }
 
-impl<R> Counted<R> {
+impl<R> CountedReader<R> {
     /// Returns a counted reader over this one. No call is counted yet.
-    pub fn new(reader: R) -> Counted<R>
+    pub fn new(reader: R) -> CountedReader<R>
         ensures reader { reader_of result ≡ reader }
-        ensures calls { counts_of result ≡ no_calls }
+        ensures calls { counts_of result ≡ no_reads }
     {
-        Counted {
+        CountedReader {
             reader,
             made: 0,
             failed: 0,
@@ -71,7 +71,7 @@ impl<R> Counted<R> {
     }
 }
 
-impl<R: Read> CountedRead for Counted<R> {
+impl<R: Read> CountedRead for CountedReader<R> {
     ghost remaining = { λ counted. R.remaining (reader_of counted) };
 
     ghost calls = { λ counted. Some (counts_of counted) };

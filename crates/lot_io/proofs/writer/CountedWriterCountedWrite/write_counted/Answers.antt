@@ -3,8 +3,8 @@ use Rattle.std.proofs.Common.{◌≡◌, ◌≢◌, ◌<◌, arith, refl, rules}
 use Rattle.std.specs.Prelude.{true, false}
 use Rattle.std.specs.IoError.{error_kind}
 use Rattle.std.specs.declared.io.ErrorKind.{ErrorKind}
-use Rattle.lot_report.proofs.OutputLemmas.{marks_failed, marks_none, marks_paused, marks_some}
-use Rattle.lot_report.proofs.output.CountedWriterCountedWrite.write_counted.Goals as goal
+use Rattle.lot_io.proofs.WriteLemmas.{marks_failed, marks_none, marks_paused, marks_some}
+use Rattle.lot_io.proofs.writer.CountedWriterCountedWrite.write_counted.Goals as goal
 
 pub returns-in-Ok-eq0-clause-calls : goal.returns-in-Ok-eq0-clause-calls
 returns-in-Ok-eq0-clause-calls g c =

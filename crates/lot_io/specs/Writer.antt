@@ -1,6 +1,6 @@
 -- A writer whose calls are counted.
-use Rattle.lot_report.specs.Output.{WriteCalls}
-use Rattle.lot_report.specs.declared.output.CountedWriter.{CountedWriter}
+use Rattle.lot_io.specs.Writes.{WriteCalls}
+use Rattle.lot_io.specs.declared.writer.CountedWriter.{CountedWriter}
 
 -- the writer
 abbrev pub writer_of : {W : Type 0} → CountedWriter W → W

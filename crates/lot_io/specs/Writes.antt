@@ -11,8 +11,8 @@ pub record WriteCalls : Type 0 where
   pub is_flushed : Bool
 
 -- no call was made
-abbrev pub no_calls : WriteCalls
-no_calls = record { made = 0; has_failed = false; is_flushed = true }
+abbrev pub no_writes : WriteCalls
+no_writes = record { made = 0; has_failed = false; is_flushed = true }
 
 -- the most calls of `write` that are counted, and that are made for one text
 abbrev pub most_calls : ℕ
