@@ -53,7 +53,6 @@ use Rattle.lot_store.specs.Apply.{HasNoRoomFor, RefusedByDeviceWith, StandsWith,
 use Rattle.lot_store.specs.ByText.{TurnAllByText}
 use Rattle.lot_store.specs.Damage.{IsOfDamage}
 use Rattle.lot_store.specs.Step.{LeavesTables}
-use Rattle.lot_store.specs.declared.fault.ApplyFault.TheVariants as apply
 use Rattle.lot_store.proofs.ByTextLemmas.{has_along, turn_more}
 use Rattle.lot_store.proofs.DamageLemmas.{looked_at, of_damage_since}
 use Rattle.lot_store.specs.Turned.{AreTurnedOn, IsTurned, handed, judged_of}
@@ -321,7 +320,7 @@ turned_not Says Kept KeptThen rounding asked old new fault unlimited read = (
     turns = λ clean entries there. inr refl;
     next = unread_inside Says Kept KeptThen asked.0 asked.1.command old new fault unlimited read;
     text = λ clean tables has. tt;
-    damage = λ clean tables has damaged. looked_at fault old new (Err (apply.Failed (store_fault_of fault))) refl (λ is. read.device clean (ap Err is));
+    damage = λ clean tables has damaged. looked_at fault old new (Err (store_fault_of fault)) refl (λ is. read.device clean (ap Err is));
   },
 )
 
@@ -389,7 +388,7 @@ module _ (Kept KeptMid KeptThen : List Entry → Type 0) (rounding : Option Roun
       of_text : HasCleanDisk new → (r : Result Verdict Fault) → IsOfDamagedText mid new r → IsOfDamagedText old new r
       of_text clean (Ok verdict) none = none
       of_text clean (Err fault) it =
-          of_damage_since old mid new (failed_since old mid new _ crash next.crash clean) (Err (apply.Failed (store_fault_of fault))) it
+          of_damage_since old mid new (failed_since old mid new _ crash next.crash clean) (Err (store_fault_of fault)) it
 
       early : HasCleanDisk new → HasCleanDisk mid
       early clean = omega (arith, clean, next.crash.clean)
@@ -515,7 +514,7 @@ module _ (Kept KeptThen : List Entry → Type 0) (rounding : Option Rounding) (a
           after = was.0;
           turn = was.1;
           damage = λ damaged.
-              of_damage_since old now new (failed_since old now new _ so.crash it.next.crash clean) (Err (apply.Failed (store_fault_of fault)))
+              of_damage_since old now new (failed_since old now new _ so.crash it.next.crash clean) (Err (store_fault_of fault))
               (it.damage clean was.0 was.2 damaged);
         };
     crash = survives_then old now new (λ _. ⊥) (λ _. ⊥) (λ _. ⊥) (λ _ db none. none) (λ _ db none. none) so.crash it.next.crash;
@@ -735,7 +734,7 @@ module _ {S : Type 0} (g : Ghosts S) (old last fin : Held S) (rounding : Option 
       crash = nothing_left _ it.crash;
     }
       where
-        of_text : (f : StoreFault) → IsOfDamage (state g begun) (state g last) (Err (apply.Failed f)) → IsOfDamage (state g old) (state g fin) (Err (apply.Failed f))
+        of_text : (f : StoreFault) → IsOfDamage (state g begun) (state g last) (Err f) → IsOfDamage (state g old) (state g fin) (Err f)
         of_text Damaged is = tt
         of_text Memory is = tt
         of_text NeedsReopen is = tt

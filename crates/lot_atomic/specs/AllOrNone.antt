@@ -29,7 +29,6 @@ use Rattle.lot_atomic.specs.declared.all_or_none.Ended.{Ended}
 use Rattle.lot_atomic.specs.declared.all_or_none.Ended.TheVariants as end
 use Rattle.lot_atomic.specs.declared.all_or_none.Together.{Together}
 use Rattle.lot_atomic.specs.declared.all_or_none.Together.TheVariants.{Accepts, Refuses, Repeats}
-use Rattle.lot_store.specs.declared.fault.ApplyFault.TheVariants as apply
 use Rattle.lot_store.specs.declared.fault.StoreFault.{StoreFault}
 use Rattle.lot_store.specs.declared.fault.StoreFault.TheVariants.{Damaged, Device, InDoubt, Memory, NeedsReopen}
 
@@ -90,7 +89,7 @@ pub record JudgesNext (Kept KeptThen : List Entry → Type 0) (key : Key) (comma
 -- what a command comes to under whose key a damaged text stands: a fault, as `apply` has it there
 abbrev pub IsOfDamagedText : {A : Type 0} → State → State → Result A Fault → Type 0
 IsOfDamagedText old new (Ok done) = ⊥
-IsOfDamagedText old new (Err fault) = IsOfDamage old new (Err (apply.Failed (store_fault_of fault)))
+IsOfDamagedText old new (Err fault) = IsOfDamage old new (Err (store_fault_of fault))
 
 -- on any tables, whatever these stand for, a verdict is by the text under the key
 abbrev pub JudgesByText : Key → Command → State → State → Result Verdict Fault → Type 0
@@ -188,7 +187,7 @@ ComesInside rounding entries asked turned old new verdicts (Err fault) =
 -- with a damaged text under the key of the first of these commands that is the fault, or what may come before the text is read
 abbrev pub MeetsDamageFirst : Tables → List (Key × Command) → State → State → StoreFault → Type 0
 MeetsDamageFirst tables [] old new fault = ⊤
-MeetsDamageFirst tables (next ∷ left) old new fault = HasDamagedText tables next.0 → IsOfDamage old new (Err (apply.Failed fault))
+MeetsDamageFirst tables (next ∷ left) old new fault = HasDamagedText tables next.0 → IsOfDamage old new (Err fault)
 
 -- The first of the commands came to these verdicts on tables, whatever these stand for, and then a fault came.
 pub record FailsByTextFirst (tables : Tables) (turned : List (Key × Command)) (verdicts : List Verdict) (old new : State)

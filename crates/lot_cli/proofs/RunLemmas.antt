@@ -24,12 +24,8 @@ use Rattle.lot_rounding.specs.declared.asked.Asked.{Asked}
 use Rattle.lot_rounding.specs.declared.rounding.Rounding.{Rounding}
 use Rattle.lot_store.specs.Run.{LeavesAfter, LeavesAtAnswer, LeavesAtFault, LeavesAtVerdict}
 use Rattle.lot_store.specs.Session.{LeavesFirst, LeavesJudged, LeavesNext}
-use Rattle.lot_store.specs.declared.book.Ack.{Ack}
-use Rattle.lot_store.specs.declared.book.Ack.TheVariants as ack
 use Rattle.lot_store.specs.declared.fault.AdoptFault.{AdoptFault}
 use Rattle.lot_store.specs.declared.fault.AdoptFault.TheVariants as adopt
-use Rattle.lot_store.specs.declared.fault.ApplyFault.{ApplyFault}
-use Rattle.lot_store.specs.declared.fault.ApplyFault.TheVariants as apply
 use Rattle.lot_store.specs.declared.fault.StoreFault.{StoreFault}
 use Rattle.lot_store.specs.declared.fault.StoreFault.TheVariants.{Damaged, Device, InDoubt, Memory, NeedsReopen}
 use Rattle.lot_store.specs.declared.run.Ending.{Ending}
@@ -66,19 +62,17 @@ module _ (old mid new : State) (verdicts : List Verdict) (book : List Entry) (ma
   at_verdict (command ∷ left) verdict (after, judges, stands, leaves) =
       (after, judges, stands, λ trees left_so. judged old mid new (verdicts ++ verdict ∷ []) after may failed trees (leaves trees left_so))
 
-  at_answer : (left : List (Key × Command)) (answer : Result Ack ApplyFault) → LeavesAtAnswer answer verdicts book left mid new → LeavesAtAnswer answer verdicts book left old new
-  at_answer left (Ok ack.Accepted) leaves = at_verdict left Accepted leaves
-  at_answer left (Ok ack.Repeat) leaves = at_verdict left Repeated leaves
-  at_answer left (Err (apply.Refused refusal)) leaves = at_verdict left (Refused refusal) leaves
-  at_answer left (Err (apply.Failed fault)) leaves = at_fault old mid new verdicts book may failed left fault leaves
+  at_answer : (left : List (Key × Command)) (answer : Result Verdict StoreFault) → LeavesAtAnswer answer verdicts book left mid new → LeavesAtAnswer answer verdicts book left old new
+  at_answer left (Ok verdict) leaves = at_verdict left verdict leaves
+  at_answer left (Err fault) leaves = at_fault old mid new verdicts book may failed left fault leaves
 
-  leaves_after : (left : List (Key × Command)) (answer : Result Ack ApplyFault) (ending : Ending) → LeavesAfter verdicts book left mid new answer ending
+  leaves_after : (left : List (Key × Command)) (answer : Result Verdict StoreFault) (ending : Ending) → LeavesAfter verdicts book left mid new answer ending
       → LeavesAfter verdicts book left old new answer ending
   leaves_after left answer Complete (all, stands, leaves) = (all, stands, λ trees left_so. judged old mid new verdicts book may failed trees (leaves trees left_so))
   leaves_after left answer (Stopped fault) leaves = at_fault old mid new verdicts book may failed left fault leaves
   leaves_after left answer Output leaves = at_answer left answer leaves
 
-numbered_after_look : (numbers : List ℕ) (commands : List (Key × Command)) (old mid new : State) (before written : Option (List ℕ)) (answer : Result Ack ApplyFault) (end : RunEnd)
+numbered_after_look : (numbers : List ℕ) (commands : List (Key × Command)) (old mid new : State) (before written : Option (List ℕ)) (answer : Result Verdict StoreFault) (end : RunEnd)
     → (HasCleanDisk mid → IsUnchanged old mid) → Survives old mid (λ _. ⊥) → RunsNumbered numbers commands mid new before written answer end
     → RunsNumbered numbers commands old new before written answer end
 numbered_after_look numbers commands old mid new before written answer end same look ran = record {

@@ -38,12 +38,8 @@ use Rattle.lot_store.specs.ByText.{AnswersFirst, EndsByText, RunsByText, TurnAll
 use Rattle.lot_store.specs.Run.{EndsBehind, HasNoRoomForNext, IsWrittenOut, LeavesAfter, LeavesAtAnswer, LeavesAtFault, LeavesAtVerdict, RunsSession, WritesEnd, answer_line, count_refused, fault_line}
 use Rattle.lot_store.specs.Session.{LeavesFirst, LeavesJudged, LeavesNext, LeavesStopped, Session}
 use Rattle.lot_store.specs.Turned.{AreLeft, AreTurned, AreTurnedOn, RunsTurned, handed, is_judged}
-use Rattle.lot_store.specs.declared.book.Ack.{Ack}
-use Rattle.lot_store.specs.declared.book.Ack.TheVariants as ack
 use Rattle.lot_store.specs.declared.book.Condition.{Condition}
 use Rattle.lot_store.specs.declared.book.Condition.TheVariants.{Ready}
-use Rattle.lot_store.specs.declared.fault.ApplyFault.{ApplyFault}
-use Rattle.lot_store.specs.declared.fault.ApplyFault.TheVariants as apply
 use Rattle.lot_store.specs.declared.fault.StoreFault.{StoreFault}
 use Rattle.lot_store.specs.declared.fault.StoreFault.TheVariants.{Damaged, Device, InDoubt, Memory, NeedsReopen}
 use Rattle.lot_store.specs.declared.run.Ending.{Ending}
@@ -138,7 +134,7 @@ some_left done [] whole vs split counted few none = omega (arith, ap length spli
 some_left done (one ∷ left) whole vs split counted few none = absurd cc
 
 -- a run that stops ends at one of its commands
-stops_within : (commands replied : ℕ) (answer : Result Ack ApplyFault) (ending : Ending) → ending ≢ Complete → answer ≢ Err (apply.Failed NeedsReopen)
+stops_within : (commands replied : ℕ) (answer : Result Verdict StoreFault) (ending : Ending) → ending ≢ Complete → answer ≢ Err NeedsReopen
     → ending ≢ Stopped NeedsReopen → EndsBehind commands replied answer ending → replied < commands
 stops_within commands replied answer Complete ends usable stops place = absurd (ends refl)
 stops_within commands replied answer (Stopped fault) ends usable stops (inl within) = within
@@ -233,14 +229,12 @@ module _ (old mid new : State) (vs : List Verdict) (book : List Entry) (may : (t
           (judged_behind (ws ++ verdict ∷ []) last (λ none. absurd (not_nil ws verdict none)) trees (leaves trees left_so)),
     )
 
-    answer_behind : (left : List (Key × Command)) (answer : Result Ack ApplyFault) → answer ≢ Err (apply.Failed NeedsReopen) → LeavesAtAnswer answer ws after left mid new
+    answer_behind : (left : List (Key × Command)) (answer : Result Verdict StoreFault) → answer ≢ Err NeedsReopen → LeavesAtAnswer answer ws after left mid new
         → LeavesAtAnswer answer (vs ++ ws) after (left ++ rest) old new
-    answer_behind left (Ok ack.Accepted) usable leaves = verdict_behind left Accepted leaves
-    answer_behind left (Ok ack.Repeat) usable leaves = verdict_behind left Repeated leaves
-    answer_behind left (Err (apply.Refused refusal)) usable leaves = verdict_behind left (Refused refusal) leaves
-    answer_behind left (Err (apply.Failed fault)) usable leaves = fault_behind left fault (λ is. usable (ap (λ (f : StoreFault). Err (apply.Failed f)) is)) leaves
+    answer_behind left (Ok verdict) usable leaves = verdict_behind left verdict leaves
+    answer_behind left (Err fault) usable leaves = fault_behind left fault (λ is. usable (ap Err is)) leaves
 
-    after_behind : (left : List (Key × Command)) (answer : Result Ack ApplyFault) (ending : Ending) → ending ≢ Complete → answer ≢ Err (apply.Failed NeedsReopen)
+    after_behind : (left : List (Key × Command)) (answer : Result Verdict StoreFault) (ending : Ending) → ending ≢ Complete → answer ≢ Err NeedsReopen
         → ending ≢ Stopped NeedsReopen → LeavesAfter ws after left mid new answer ending → LeavesAfter (vs ++ ws) after (left ++ rest) old new answer ending
     after_behind left answer Complete ends usable stops leaves = absurd (ends refl)
     after_behind left answer (Stopped fault) ends usable stops leaves = fault_behind left fault (λ is. stops (ap Stopped is)) leaves
@@ -248,16 +242,16 @@ module _ (old mid new : State) (vs : List Verdict) (book : List Entry) (may : (t
 
 module _ (old mid new : State) (failed : DiskFailed mid new → DiskFailed old new) (rest : List (Key × Command)) where
   -- what stands by the texts
-  first_texts : (tables : Tables) (left : List (Key × Command)) (answer : Result Ack ApplyFault) → left ≢ [] → AnswersFirst tables left mid new answer
+  first_texts : (tables : Tables) (left : List (Key × Command)) (answer : Result Verdict StoreFault) → left ≢ [] → AnswersFirst tables left mid new answer
       → AnswersFirst tables (left ++ rest) old new answer
   first_texts tables [] answer some told = absurd (some refl)
   first_texts tables (next ∷ left) answer some told =
       record { damage = λ damaged. of_damage_since old mid new failed answer (told.damage damaged); leaves = told.leaves }
 
-  ends_texts : (tables : Tables) (left : List (Key × Command)) (answer : Result Ack ApplyFault) (ending : Ending) → ending ≢ Complete → left ≢ []
+  ends_texts : (tables : Tables) (left : List (Key × Command)) (answer : Result Verdict StoreFault) (ending : Ending) → ending ≢ Complete → left ≢ []
       → EndsByText tables left mid new answer ending → EndsByText tables (left ++ rest) old new answer ending
   ends_texts tables left answer Complete ends some told = absurd (ends refl)
-  ends_texts tables left answer (Stopped fault) ends some told = first_texts tables left (Err (apply.Failed fault)) some told
+  ends_texts tables left answer (Stopped fault) ends some told = first_texts tables left (Err fault) some told
   ends_texts tables left answer Output ends some told = first_texts tables left answer some told
 
 -- ---- what a stop leaves
@@ -309,21 +303,19 @@ module _ (entries : List Entry) (commands : List (Key × Command)) (verdicts : L
       stopped Repeated one there = (book, inl (next ∷ left, on), subst (Left trees) one.1 there)
       stopped (Refused refusal) one there = (book, inl (next ∷ left, on), subst (Left trees) one.1 there)
 
-  answer_stops : (answer : Result Ack ApplyFault) (left : List (Key × Command)) → Session entries commands verdicts book left → LeavesAtAnswer answer verdicts book left old new
+  answer_stops : (answer : Result Verdict StoreFault) (left : List (Key × Command)) → Session entries commands verdicts book left → LeavesAtAnswer answer verdicts book left old new
       → (trees : Trees) → new.may_leave trees → LeavesStopped entries commands verdicts trees
-  answer_stops (Ok ack.Accepted) left on = verdict_stops Accepted left on
-  answer_stops (Ok ack.Repeat) left on = verdict_stops Repeated left on
-  answer_stops (Err (apply.Refused refusal)) left on = verdict_stops (Refused refusal) left on
-  answer_stops (Err (apply.Failed fault)) left on = fault_stops fault left on
+  answer_stops (Ok verdict) left on = verdict_stops verdict left on
+  answer_stops (Err fault) left on = fault_stops fault left on
 
-  stops : (answer : Result Ack ApplyFault) (ending : Ending) (left : List (Key × Command)) → Session entries commands verdicts book left
+  stops : (answer : Result Verdict StoreFault) (ending : Ending) (left : List (Key × Command)) → Session entries commands verdicts book left
       → LeavesAfter verdicts book left old new answer ending → (trees : Trees) → new.may_leave trees → LeavesStopped entries commands verdicts trees
   stops answer Complete left on (all, stands, leaves) trees may = judged_stops left on trees (leaves trees may)
   stops answer (Stopped fault) left on leaves trees may = fault_stops fault left on leaves trees may
   stops answer Output left on leaves trees may = answer_stops answer left on leaves trees may
 
 -- a run of commands with numbers, from what it wrote and what it left
-pub run_of : (numbers : List ℕ) (commands : List (Key × Command)) (old new : State) (before written : Option (List ℕ)) (answer : Result Ack ApplyFault) (ending : Ending) (verdicts : List Verdict)
+pub run_of : (numbers : List ℕ) (commands : List (Key × Command)) (old new : State) (before written : Option (List ℕ)) (answer : Result Verdict StoreFault) (ending : Ending) (verdicts : List Verdict)
     → LeavesWhatStands old
     → (HasCleanDisk new → (entries : List Entry) → Stands old entries → WritesEndBy numbers verdicts answer ending before written)
     → (FollowOneAnother numbers → WritesEnd (first_number numbers) verdicts answer ending before written)
@@ -388,8 +380,8 @@ done_all rounding numbers asked turned status old now before written calls stand
   record { replied = length so.verdicts; refused = count_refused so.verdicts; ending = Complete },
   record {
     turned = turned;
-    answer = Ok ack.Accepted;
-    session = run_of numbers turned old now before written (Ok ack.Accepted) Complete so.verdicts stands_so (λ clean entries stands. (so.replied clean entries stands).lines)
+    answer = Ok Accepted;
+    session = run_of numbers turned old now before written (Ok Accepted) Complete so.verdicts stands_so (λ clean entries stands. (so.replied clean entries stands).lines)
         (λ follow. absurd (apart follow)) (sym so.all)
         (λ clean entries stands.
         let was = so.judged clean entries stands in (
@@ -431,7 +423,7 @@ module _ (rounding : Option Rounding) (entries : List Entry) (asked : List (Key 
   none_left mark on [] next = refl
   none_left mark on (one ∷ rest) next = absurd next
 
-  all_turned : (replied : ℕ) (answer : Result Ack ApplyFault) → replied ≡ length turned → AreTurned rounding entries asked turned replied answer
+  all_turned : (replied : ℕ) (answer : Result Verdict StoreFault) → replied ≡ length turned → AreTurned rounding entries asked turned replied answer
       → AreTurnedOn rounding entries asked turned verdicts book
   all_turned replied answer all are =
       let count = turns_count rounding entries are.book are.first are.done are.verdicts are.turns in
@@ -447,7 +439,7 @@ module _ (rounding : Option Rounding) (entries : List Entry) (asked : List (Key 
       (subst (AreTurnedOn rounding entries asked turned are.verdicts) alike.1 turns)
 
 -- as many were judged in the place of those that were handed in
-module _ (rounding : Option Rounding) (entries : List Entry) (asked : List (Key × Asked)) (turned : List (Key × Command)) (replied : ℕ) (answer : Result Ack ApplyFault) where
+module _ (rounding : Option Rounding) (entries : List Entry) (asked : List (Key × Asked)) (turned : List (Key × Command)) (replied : ℕ) (answer : Result Verdict StoreFault) where
   left_count : (mark : Bool) (book : List Entry) (rest : List (Key × Asked)) (left : List (Key × Command)) → AreLeft mark rounding book rest left → length left ≡ length rest
   left_count mark book [] [] next = refl
   left_count mark book [] (t ∷ left) next = absurd next
@@ -474,7 +466,7 @@ module _ (rounding : Option Rounding) (entries : List Entry) (asked : List (Key 
 
 module _ (rounding : Option Rounding) (numbers later : List ℕ) (asked stretch rest : List (Key × Asked)) (done : List (Key × Command)) (from : ℕ) (status : Status)
     (old mid new : State) (before between written : Option (List ℕ)) (so : Done rounding numbers asked done status old mid before between)
-    (turned : List (Key × Command)) (answer : Result Ack ApplyFault) (end : RunEnd) (ran : RunsSession turned from mid new between written answer end)
+    (turned : List (Key × Command)) (answer : Result Verdict StoreFault) (end : RunEnd) (ran : RunsSession turned from mid new between written answer end)
     (are : HasCleanDisk new → (entries : List Entry) → Stands mid entries → AreTurned rounding entries stretch turned end.replied answer) where
   abbrev theirs : List ℕ
   theirs = range_with_len from (length stretch)
@@ -581,7 +573,7 @@ module _ (rounding : Option Rounding) (numbers later : List ℕ) (asked stretch 
 
   -- ---- a stretch at which the run ends
 
-  module _ (ends : end.ending ≢ Complete) (usable : answer ≢ Err (apply.Failed NeedsReopen)) (stops_not : end.ending ≢ Stopped NeedsReopen) where
+  module _ (ends : end.ending ≢ Complete) (usable : answer ≢ Err NeedsReopen) (stops_not : end.ending ≢ Stopped NeedsReopen) where
     abbrev others : List (Key × Command)
     others = map handed rest
 
@@ -813,7 +805,7 @@ not_complete ending (inr is) complete = let both = sym is ∙ complete in absurd
 
 module _ (rounding : Option Rounding) (numbers : List ℕ) (asked : List (Key × Asked)) (from : ℕ) (as_many : length numbers ≡ length asked)
     (first : from ≡ first_number numbers) (follow : numbers ≡ range_with_len from (length numbers)) where
-  by_numbers : (verdicts : List Verdict) (answer : Result Ack ApplyFault) (ending : Ending) (before written : Option (List ℕ)) → length verdicts ≤ length numbers
+  by_numbers : (verdicts : List Verdict) (answer : Result Verdict StoreFault) (ending : Ending) (before written : Option (List ℕ)) → length verdicts ≤ length numbers
       → (ending ≢ Complete → length verdicts < length numbers) → WritesEnd from verdicts answer ending before written
       → WritesEndBy numbers verdicts answer ending before written
   by_numbers verdicts answer ending before written few within lines = by ending within lines

@@ -30,7 +30,6 @@ use Rattle.lot_store.proofs.DamageLemmas.{of_damage_since}
 use Rattle.lot_store.proofs.RunLemmas.{LeavesWhatStands}
 use Rattle.lot_store.specs.Create.{IsTaken}
 use Rattle.lot_store.specs.Run.{IsWrittenOut}
-use Rattle.lot_store.specs.declared.fault.ApplyFault.TheVariants as apply
 use Rattle.lot_store.specs.declared.fault.StoreFault.{StoreFault}
 use Rattle.lot_store.specs.declared.fault.StoreFault.TheVariants.{Damaged, Device, InDoubt, Memory, NeedsReopen}
 use Rattle.lot_store.specs.declared.run.Ending.TheVariants.{Stopped}
@@ -86,7 +85,7 @@ module _ (rounding : Option Rounding) (asked : List (Key × Asked)) (turned : Li
 
   damage_since : (tables : Tables) (left : List (Key × Command)) (fault : StoreFault) → MeetsDamageFirst tables left mid new fault → MeetsDamageFirst tables left old new fault
   damage_since tables [] fault meets = tt
-  damage_since tables (next ∷ left) fault meets = λ damaged. of_damage_since old mid new failed (Err (apply.Failed fault)) (meets damaged)
+  damage_since tables (next ∷ left) fault meets = λ damaged. of_damage_since old mid new failed (Err fault) (meets damaged)
 
   texts_since : (tables : Tables) (ended : Ended) → ComesByText tables turned mid new verdicts ended → ComesByText tables turned old new verdicts ended
   texts_since tables Kept comes = comes

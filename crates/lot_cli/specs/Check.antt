@@ -9,6 +9,7 @@ use Rattle.lot_book.specs.Facts.{Entry}
 use Rattle.lot_book.specs.declared.verdict.Verdict.{Verdict}
 use Rattle.lot_rounding.specs.declared.asked.Asked.{Asked}
 use Rattle.lot_rounding.specs.declared.rounding.Rounding.{Rounding}
+use Rattle.lot_store.specs.declared.fault.StoreFault.{StoreFault}
 use Rattle.lot_stored.specs.StandFor.{Stands}
 use Rattle.lot_table.specs.Shape.{schema_of}
 use Rattle.lot_io.specs.Writes.{IsFlushed, WriteCalls, WritesMade}
@@ -26,8 +27,6 @@ use Rattle.lot_cli.specs.declared.halt.Halt.TheVariants as halt
 use Rattle.lot_store.specs.Run.{EndsBehind, IsWrittenOut, Writes}
 use Rattle.lot_store.specs.Session.{Session}
 use Rattle.lot_store.specs.Turned.{AreTurned}
-use Rattle.lot_store.specs.declared.book.Ack.{Ack}
-use Rattle.lot_store.specs.declared.fault.ApplyFault.{ApplyFault}
 use Rattle.lot_store.specs.declared.fault.CreateFault.{CreateFault}
 use Rattle.lot_store.specs.declared.fault.StoreFault.TheVariants.{Damaged}
 use Rattle.lot_store.specs.declared.run.Ending.{Ending}
@@ -72,7 +71,7 @@ ShowsBehind Output book before written calls posted status = ShowsNothing before
 pub record RunsCheck (rounding : Rounding) (asked : List (Key × Asked)) (before written : Option (List ℕ)) (calls : WritesMade)
     (told : Told) : Type 0 where
   pub turned : List (Key × Command)
-  pub answer : Result Ack ApplyFault
+  pub answer : Result Verdict StoreFault
   pub end : RunEnd
   pub verdicts : List Verdict
   pub book : List Entry

@@ -14,6 +14,7 @@ use Rattle.lot_book.specs.declared.verdict.Verdict.{Verdict}
 use Rattle.lot_rounding.specs.declared.asked.Asked.{Asked}
 use Rattle.lot_rounding.specs.declared.rounding.Rounding.{Rounding}
 use Rattle.lot_rows.specs.Tables.{Has, Tables}
+use Rattle.lot_store.specs.declared.fault.StoreFault.{StoreFault}
 use Rattle.lot_stored.specs.StandFor.{Stands}
 use Rattle.lot_args.specs.declared.action.Keeping.{Keeping}
 use Rattle.lot_args.specs.declared.action.Keeping.TheVariants.{AllOrNone, Each}
@@ -37,11 +38,8 @@ use Rattle.lot_store.specs.ByText.{RunsByText}
 use Rattle.lot_store.specs.Run.{EndsBehind, IsWrittenOut, LeavesAfter, WritesEnd, answer_line, count_refused, fault_line}
 use Rattle.lot_store.specs.Session.{LeavesFirst, LeavesStopped, Session}
 use Rattle.lot_store.specs.Turned.{AreTurned}
-use Rattle.lot_store.specs.declared.book.Ack.{Ack}
 use Rattle.lot_store.specs.declared.fault.AdoptFault.{AdoptFault}
 use Rattle.lot_store.specs.declared.fault.AdoptFault.TheVariants as adopt
-use Rattle.lot_store.specs.declared.fault.ApplyFault.{ApplyFault}
-use Rattle.lot_store.specs.declared.fault.ApplyFault.TheVariants as apply
 use Rattle.lot_store.specs.declared.fault.StoreFault.TheVariants.{NeedsReopen}
 use Rattle.lot_store.specs.declared.run.Ending.{Ending}
 use Rattle.lot_store.specs.declared.run.Ending.TheVariants as ending
@@ -79,8 +77,8 @@ abbrev pub status_of_run : RunEnd → Status
 status_of_run end = status_ending end.ending end.refused
 
 -- a run on a book that was just taken up never says that it needs reopening
-abbrev pub NeverReopens : Result Ack ApplyFault → Ending → Type 0
-NeverReopens answer end = (answer ≢ Err (apply.Failed NeedsReopen)) × (end ≢ ending.Stopped NeedsReopen)
+abbrev pub NeverReopens : Result Verdict StoreFault → Ending → Type 0
+NeverReopens answer end = (answer ≢ Err NeedsReopen) × (end ≢ ending.Stopped NeedsReopen)
 
 -- ---- commands that are kept one by one
 
@@ -94,7 +92,7 @@ FollowOneAnother numbers = numbers ≡ range_with_len (first_number numbers) (le
 
 -- What is written behind the replies to the verdicts, where the commands have these numbers. It is nothing, or the line of the
 -- fault. Where the writer failed, it is some of the line of the answer to the next command.
-abbrev pub WritesEndBy : List ℕ → List Verdict → Result Ack ApplyFault → Ending → Option (List ℕ) → Option (List ℕ) → Type 0
+abbrev pub WritesEndBy : List ℕ → List Verdict → Result Verdict StoreFault → Ending → Option (List ℕ) → Option (List ℕ) → Type 0
 WritesEndBy numbers verdicts answer ending.Complete old new = Appends old new (replies_by numbers verdicts)
 WritesEndBy numbers verdicts answer (ending.Stopped fault) old new =
     Appends old new (replies_by numbers verdicts ++ fault_line (number_at numbers (length verdicts)) fault)
@@ -104,7 +102,7 @@ WritesEndBy numbers verdicts answer ending.Output old new =
 
 -- A run of commands on a book in a file, as `RunsSession` of `lot_store` is, where each command has a number of its own.
 pub record RunsNumbered (numbers : List ℕ) (commands : List (Key × Command)) (old new : State) (before written : Option (List ℕ))
-    (answer : Result Ack ApplyFault) (end : RunEnd) : Type 0 where
+    (answer : Result Verdict StoreFault) (end : RunEnd) : Type 0 where
   pub verdicts : List Verdict
   pub replied : end.replied ≡ length verdicts
   pub refused : end.refused ≡ count_refused verdicts
@@ -132,7 +130,7 @@ pub record RunsNumbered (numbers : List ℕ) (commands : List (Key × Command)) 
 pub record RunsEach (rounding : Option Rounding) (numbers : List ℕ) (asked : List (Key × Asked)) (old new : State)
     (before written : Option (List ℕ)) (calls : WritesMade) (end : RunEnd) : Type 0 where
   pub turned : List (Key × Command)
-  pub answer : Result Ack ApplyFault
+  pub answer : Result Verdict StoreFault
   pub session : RunsNumbered numbers turned old new before written answer end
   pub are_turned : HasCleanDisk new → (entries : List Entry) → Stands old entries
       → AreTurned rounding entries asked turned end.replied answer

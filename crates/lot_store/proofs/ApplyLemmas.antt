@@ -1,5 +1,6 @@
 -- Applying a command: what is judged on a view, and what its writes come to.
 use Rattle.std.proofs.Common.{◌≡◌, ◌∙◌, ◌⊎◌, inl, inr, false, IfSome, None, Ok, Err, IsTrue, List, [], ◌∷◌, ◌++◌, All, Option, Result, Some, refl, sym, subst, subst₂, arith}
+use Rattle.std.specs.Result.{result_ok}
 use Rattle.sqlite.specs.Effect.{Database}
 use Rattle.sqlite.specs.State.{HasCleanDisk, IsUnchanged, KeepsCommit, State, Survives}
 use Rattle.sqlite.proofs.StateLemmas.{survives_then, survives_weaker}
@@ -15,7 +16,7 @@ use Rattle.lot_book.specs.Step.{Accept, Refuse, Repeat, Step}
 use Rattle.lot_book.specs.declared.refusal.Refusal.{Refusal}
 use Rattle.lot_book.specs.declared.change.Change.{Change}
 use Rattle.lot_book.specs.declared.verdict.Verdict.{Verdict}
-use Rattle.lot_book.specs.declared.verdict.Verdict.TheVariants.{Accepted}
+use Rattle.lot_book.specs.declared.verdict.Verdict.TheVariants.{Accepted, Refused, Repeated}
 use Rattle.lot_stored.specs.StandFor.{AreOfBook, StandFor, Stands}
 use Rattle.lot_laws.proofs.RecordedBook.{book-grows, key_was_new}
 use Rattle.lot_laws.proofs.StepOpenings.{step_where_agreed}
@@ -28,12 +29,8 @@ use Rattle.lot_rows.specs.Tables.{Has, Tables, layout}
 use Rattle.lot_write.specs.declared.write.Write.{Write}
 use Rattle.lot_table.specs.Book.{Holds}
 use Rattle.lot_table.specs.Statement.{DiskFailed}
-use Rattle.lot_store.specs.Apply.{Applies, AppliesWith, HasNoRoomFor, MayAdd, MayWrite, RefusedByDeviceWith, StandsWith, WritesDown, verdict_of}
+use Rattle.lot_store.specs.Apply.{Applies, AppliesWith, HasNoRoomFor, MayAdd, MayWrite, RefusedByDeviceWith, StandsWith, WritesDown}
 use Rattle.lot_store.specs.Session.{LeavesEntry}
-use Rattle.lot_store.specs.declared.book.Ack.{Ack}
-use Rattle.lot_store.specs.declared.book.Ack.TheVariants as ack
-use Rattle.lot_store.specs.declared.fault.ApplyFault.{ApplyFault}
-use Rattle.lot_store.specs.declared.fault.ApplyFault.TheVariants.{Failed, Refused}
 use Rattle.lot_store.specs.declared.fault.StoreFault.{StoreFault}
 use Rattle.lot_store.specs.declared.fault.StoreFault.TheVariants.{Damaged, Device, InDoubt, Memory, NeedsReopen}
 use Rattle.lot_store.proofs.CommitLemmas.{leaves_none}
@@ -123,24 +120,24 @@ module _ (Kept Looked : List Entry → Type 0) (key : Key) (command : Command) (
   committed clean =
       let it = (same clean).0 in (it.is_open, it.committed_is ∙ sym (settled clean it.was_open) ∙ sym it.now_is)
 
-  pub repeats : DecidesByOpening known command Repeat → AppliesWith Kept Looked key command old new (Ok ack.Repeat)
+  pub repeats : DecidesByOpening known command Repeat → AppliesWith Kept Looked key command old new (Ok Repeated)
   repeats decides = record {
     judged = λ clean entries there.
         (entries, (step_where_agreed Second known entries key command Repeat (agrees clean entries there) decides, refl), stays clean entries there);
     settled = committed;
     rest = same;
     damaged = λ clean is. cc;
-    crash = leaves_none old new (MayAdd (StandsWith Kept old) key command (Ok ack.Repeat)) crash;
+    crash = leaves_none old new (MayAdd (StandsWith Kept old) key command (Ok Repeated)) crash;
   }
 
-  pub refuses : (refusal : Refusal) → DecidesByOpening known command (Refuse refusal) → AppliesWith Kept Looked key command old new (Err (Refused refusal))
+  pub refuses : (refusal : Refusal) → DecidesByOpening known command (Refuse refusal) → AppliesWith Kept Looked key command old new (Ok (Refused refusal))
   refuses refusal decides = record {
     judged = λ clean entries there.
         (entries, (step_where_agreed Second known entries key command (Refuse refusal) (agrees clean entries there) decides, refl), stays clean entries there);
     settled = committed;
     rest = same;
     damaged = λ clean is. cc;
-    crash = leaves_none old new (MayAdd (StandsWith Kept old) key command (Err (Refused refusal))) crash;
+    crash = leaves_none old new (MayAdd (StandsWith Kept old) key command (Ok (Refused refusal))) crash;
   }
 
 -- ---- a command that is accepted, after what it looks at was read, with its writes committed or not
@@ -177,7 +174,7 @@ module _ (law : KeepsBook) (Kept Looked : List Entry → Type 0) (key : Key) (co
   pub accepts : (KeptThen : List Entry → Type 0)
       → ((entries : List Entry) → IsBook entries → Looked entries → AgreesWithOpenings known (facts_with_openings entries key) command → KeptThen (entries ++ entry_of key command change.legs ∷ []))
       → (HasCleanDisk new → WritesDown writes mid new) → Survives mid new (MayWrite {A = Unit {0}} writes mid (Ok tt))
-      → AppliesWith Kept KeptThen key command old new (Ok ack.Accepted)
+      → AppliesWith Kept KeptThen key command old new (Ok Accepted)
   accepts KeptThen records done crash = record {
     judged = λ clean entries there.
         let early : HasCleanDisk mid = omega (arith, clean, crash.clean) in
@@ -191,11 +188,11 @@ module _ (law : KeepsBook) (Kept Looked : List Entry → Type 0) (key : Key) (co
     settled = λ clean. ((done clean).is_open, (done clean).committed);
     rest = λ clean. tt;
     damaged = λ clean is. cc;
-    crash = survives_then old mid new (λ _. ⊥) (MayWrite {A = Unit {0}} writes mid (Ok tt)) (MayAdd (StandsWith Kept old) key command (Ok ack.Accepted)) (λ clean db none. absurd none)
+    crash = survives_then old mid new (λ _. ⊥) (MayWrite {A = Unit {0}} writes mid (Ok tt)) (MayAdd (StandsWith Kept old) key command (Ok Accepted)) (λ clean db none. absurd none)
         (λ clean db written. leave (omega (arith, clean, crash.clean)) db written) looked crash;
   }
 
-  may_add : HasCleanDisk mid → (fault : StoreFault) (db : Trees) → MayWrite {A = Unit {0}} writes mid (Err fault) db → MayAdd (StandsWith Kept old) key command (Err (Failed fault)) db
+  may_add : HasCleanDisk mid → (fault : StoreFault) (db : Trees) → MayWrite {A = Unit {0}} writes mid (Err fault) db → MayAdd (StandsWith Kept old) key command (Err fault) db
   may_add clean InDoubt db written = leave clean db written
   may_add clean Memory db written = leave clean db written
   may_add clean Device db none = none
@@ -204,7 +201,7 @@ module _ (law : KeepsBook) (Kept Looked : List Entry → Type 0) (key : Key) (co
 
   pub fails : (KeptThen : List Entry → Type 0) (fault : StoreFault) → (HasCleanDisk new → KeepsCommit mid new) → (HasCleanDisk new → IsTrue new.is_open → new.now ≡ new.committed)
       → (HasCleanDisk new → fault ≡ Damaged → (tables : Tables) → AreFit writes tables → ¬ Has mid tables)
-      → Survives mid new (MayWrite {A = Unit {0}} writes mid (Err fault)) → AppliesWith Kept KeptThen key command old new (Err (Failed fault))
+      → Survives mid new (MayWrite {A = Unit {0}} writes mid (Err fault)) → AppliesWith Kept KeptThen key command old new (Err fault)
   fails KeptThen fault kept_last now_is found crash = record {
     judged = λ clean entries there. tt;
     settled = λ clean. tt;
@@ -219,7 +216,7 @@ module _ (law : KeepsBook) (Kept Looked : List Entry → Type 0) (key : Key) (co
         let early : HasCleanDisk mid = omega (arith, clean, crash.clean) in
         let same_fault : fault ≡ Damaged = cc in
         found clean same_fault there.0.tables (fit early entries there) (has_then early there.0.tables there.0.has);
-    crash = survives_then old mid new (λ _. ⊥) (MayWrite {A = Unit {0}} writes mid (Err fault)) (MayAdd (StandsWith Kept old) key command (Err (Failed fault))) (λ clean db none. absurd none)
+    crash = survives_then old mid new (λ _. ⊥) (MayWrite {A = Unit {0}} writes mid (Err fault)) (MayAdd (StandsWith Kept old) key command (Err fault)) (λ clean db none. absurd none)
         (λ clean db written. may_add (omega (arith, clean, crash.clean)) fault db written) looked crash;
   }
 
@@ -246,14 +243,14 @@ module _ (law : KeepsBook) (Kept Looked : List Entry → Type 0) (key : Key) (co
 
 -- it comes to a fault before that
 pub fails_unwritten : (Kept KeptThen : List Entry → Type 0) (key : Key) (command : Command) (old new : State) (fault : StoreFault) → ¬ (fault ≡ Damaged)
-    → (HasCleanDisk new → IsUnchanged old new) → Survives old new (λ _. ⊥) → AppliesWith Kept KeptThen key command old new (Err (Failed fault))
+    → (HasCleanDisk new → IsUnchanged old new) → Survives old new (λ _. ⊥) → AppliesWith Kept KeptThen key command old new (Err fault)
 fails_unwritten Kept KeptThen key command old new fault apart same crash = record {
   judged = λ clean entries there. tt;
   settled = λ clean. tt;
   rest = λ clean.
       (record { was_open = λ _. (same clean).0.was_open; committed = λ _. (same clean).0.committed_is }, λ opened. (same clean).0.now_is);
   damaged = λ clean is entries there. let told : fault ≡ Damaged = cc in apart told;
-  crash = leaves_none old new (MayAdd (StandsWith Kept old) key command (Err (Failed fault))) crash;
+  crash = leaves_none old new (MayAdd (StandsWith Kept old) key command (Err fault)) crash;
 }
 
 -- a number of what is accepted doesn't fit its column
@@ -271,10 +268,10 @@ refused_number Kept Looked key command known change old mid comes looks numbers 
 -- ---- with nothing kept
 
 -- the same of each book that the tables stand for
-pub with_nothing : (key : Key) (command : Command) (old new : State) (result : Result Ack ApplyFault) (Kept KeptThen : List Entry → Type 0) → ((entries : List Entry) → Kept entries)
+pub with_nothing : (key : Key) (command : Command) (old new : State) (result : Result Verdict StoreFault) (Kept KeptThen : List Entry → Type 0) → ((entries : List Entry) → Kept entries)
     → AppliesWith Kept KeptThen key command old new result → Applies key command old new result
 with_nothing key command old new result Kept KeptThen all applies = record {
-  judged = λ clean entries stands. judged_alone (verdict_of result) entries (applies.judged clean entries (stands, all entries));
+  judged = λ clean entries stands. judged_alone (result_ok result) entries (applies.judged clean entries (stands, all entries));
   settled = applies.settled;
   rest = applies.rest;
   damaged = λ clean is entries stands. applies.damaged clean is entries (stands, all entries);
@@ -287,12 +284,12 @@ with_nothing key command old new result Kept KeptThen all applies = record {
     judged_alone None entries it = tt
     judged_alone (Some verdict) entries it = (it.0, it.1, it.2.0)
 
-    add_alone : (answer : Result Ack ApplyFault) (db : Trees) → MayAdd (StandsWith Kept old) key command answer db → MayAdd (Stands old) key command answer db
-    add_alone (Ok ack.Accepted) db add = λ entries stands. add entries (stands, all entries)
-    add_alone (Ok ack.Repeat) db none = none
-    add_alone (Err (Refused refusal)) db none = none
-    add_alone (Err (Failed InDoubt)) db add = λ entries stands. add entries (stands, all entries)
-    add_alone (Err (Failed Memory)) db add = λ entries stands. add entries (stands, all entries)
-    add_alone (Err (Failed Device)) db none = none
-    add_alone (Err (Failed NeedsReopen)) db none = none
-    add_alone (Err (Failed Damaged)) db none = none
+    add_alone : (answer : Result Verdict StoreFault) (db : Trees) → MayAdd (StandsWith Kept old) key command answer db → MayAdd (Stands old) key command answer db
+    add_alone (Ok Accepted) db add = λ entries stands. add entries (stands, all entries)
+    add_alone (Ok Repeated) db none = none
+    add_alone (Ok (Refused refusal)) db none = none
+    add_alone (Err InDoubt) db add = λ entries stands. add entries (stands, all entries)
+    add_alone (Err Memory) db add = λ entries stands. add entries (stands, all entries)
+    add_alone (Err Device) db none = none
+    add_alone (Err NeedsReopen) db none = none
+    add_alone (Err Damaged) db none = none

@@ -27,6 +27,7 @@ use Rattle.lot_load.specs.Damage.{HasText, text_in}
 use Rattle.lot_rows.specs.Entry.{IsUnnamed, entry_cells, is_named, named}
 use Rattle.lot_rows.specs.Tables.{Has, Tables, layout}
 use Rattle.lot_rows.specs.declared.entry.EntryRow.{EntryRow}
+use Rattle.lot_store.specs.declared.fault.StoreFault.{StoreFault}
 use Rattle.lot_stored.specs.Rows.{entry_row}
 use Rattle.lot_table.specs.Book.{Holds}
 use Rattle.lot_table.specs.Rows.{has_key, key_order, put_in, without_key}
@@ -40,9 +41,6 @@ use Rattle.lot_write.proofs.AsPutLemmas.{left-made}
 use Rattle.lot_write.proofs.WrittenLemmas.{IsNoEntry}
 use Rattle.lot_store.specs.Apply.{LeavesAlone}
 use Rattle.lot_store.specs.ByText.{AnswersFirst, EndsByText, HasTurned, LeavesByText, RunsByText, TurnAllByText, TurnsByText}
-use Rattle.lot_store.specs.declared.book.Ack.{Ack}
-use Rattle.lot_store.specs.declared.fault.ApplyFault.{ApplyFault}
-use Rattle.lot_store.specs.declared.fault.ApplyFault.TheVariants as apply
 use Rattle.lot_store.specs.declared.run.Ending.{Ending}
 use Rattle.lot_store.specs.declared.run.Ending.TheVariants.{Complete, Output, Stopped}
 use Rattle.lot_store.proofs.DamageLemmas.{of_damage_since}
@@ -157,18 +155,18 @@ leaves_by_text tables key command old new (Some verdict) turned alone has = turn
 -- ---- on a database that was only looked at before
 
 module _ (old mid new : State) (since : DiskFailed mid new → DiskFailed old new) where
-  answers_since : (tables : Tables) (left : List (Key × Command)) (answer : Result Ack ApplyFault) → AnswersFirst tables left mid new answer → AnswersFirst tables left old new answer
+  answers_since : (tables : Tables) (left : List (Key × Command)) (answer : Result Verdict StoreFault) → AnswersFirst tables left mid new answer → AnswersFirst tables left old new answer
   answers_since tables [] answer told = tt
   answers_since tables (next ∷ left) answer told =
       record { damage = λ damaged. of_damage_since old mid new since answer (told.damage damaged); leaves = told.leaves }
 
-  ends_since : (tables : Tables) (left : List (Key × Command)) (answer : Result Ack ApplyFault) (ending : Ending) → EndsByText tables left mid new answer ending
+  ends_since : (tables : Tables) (left : List (Key × Command)) (answer : Result Verdict StoreFault) (ending : Ending) → EndsByText tables left mid new answer ending
       → EndsByText tables left old new answer ending
   ends_since tables left answer Complete ends = ends
-  ends_since tables left answer (Stopped fault) ends = answers_since tables left (Err (apply.Failed fault)) ends
+  ends_since tables left answer (Stopped fault) ends = answers_since tables left (Err fault) ends
   ends_since tables left answer Output ends = answers_since tables left answer ends
 
-  pub runs_by_text_since : (tables : Tables) (commands : List (Key × Command)) (verdicts : List Verdict) (answer : Result Ack ApplyFault) (ending : Ending)
+  pub runs_by_text_since : (tables : Tables) (commands : List (Key × Command)) (verdicts : List Verdict) (answer : Result Verdict StoreFault) (ending : Ending)
       → RunsByText tables commands verdicts mid new answer ending → RunsByText tables commands verdicts old new answer ending
   runs_by_text_since tables commands verdicts answer ending ran = record {
     done = ran.done;

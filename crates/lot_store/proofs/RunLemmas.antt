@@ -4,6 +4,7 @@ use Rattle.std.specs.Prelude.{⊤}
 use Rattle.std.proofs.KnownBytes.{Appends-nil, Appends-trans}
 use Rattle.std.proofs.lemmas.Bool.{cases_Bool, true≢false}
 use Rattle.std.specs.Io.KnownBytes.{Appends}
+use Rattle.std.specs.Result.{result_ok}
 use Rattle.sqlite.proofs.StateLemmas.{survives_then, survives_weaker}
 use Rattle.sqlite.specs.Effect.{Database}
 use Rattle.sqlite.specs.State.{HasCleanDisk, State, Survives}
@@ -24,19 +25,15 @@ use Rattle.lot_report.specs.declared.line.PrintFault.TheVariants.{Write, Memory 
 use Rattle.lot_rows.specs.Tables.{Has, Tables, layout}
 use Rattle.lot_table.specs.Book.{Holds}
 use Rattle.lot_table.specs.Statement.{DiskFailed}
-use Rattle.lot_store.specs.Apply.{AppliesWith, FailsFor, HasNoRoomFor, MayAdd, StandsWith, condition_after, ready_of, verdict_of}
+use Rattle.lot_store.specs.Apply.{AppliesWith, FailsFor, HasNoRoomFor, MayAdd, StandsWith, condition_after, ready_of}
 use Rattle.lot_store.specs.ByText.{AnswersByText, AnswersFirst, EndsByText, HasTurned, IsByText, RunsByText, TurnAllByText}
-use Rattle.lot_store.specs.Run.{AppendsSome, EndsBehind, FlushesLine, HasNoRoomForNext, IsConditionAfter, LeavesAfter, LeavesAtAnswer, LeavesAtFault, LeavesAtVerdict, RepliesTo, RunsSession, StopsWith, Writes, WritesEnd, WritesOut, answer_line, count_refused, fault_line, told}
+use Rattle.lot_store.specs.Run.{AppendsSome, EndsBehind, FlushesLine, HasNoRoomForNext, IsConditionAfter, LeavesAfter, LeavesAtAnswer, LeavesAtFault, LeavesAtVerdict, RepliesTo, RunsSession, StopsWith, Writes, WritesEnd, WritesOut, answer_line, count_refused, fault_line}
 use Rattle.lot_store.specs.Session.{LeavesEntry, LeavesFirst, LeavesJudged, LeavesNext, LeavesStopped, Session}
 use Rattle.lot_store.specs.Turned.{AreLeft, AreTurned, AreTurnedOn, IsLastTurned, IsTurned, RunsTurned, handed, is_judged}
 use Rattle.lot_rounding.specs.declared.asked.Asked.{Asked}
 use Rattle.lot_rounding.specs.declared.rounding.Rounding.{Rounding}
-use Rattle.lot_store.specs.declared.book.Ack.{Ack}
-use Rattle.lot_store.specs.declared.book.Ack.TheVariants as ack
 use Rattle.lot_store.specs.declared.book.Condition.{Condition}
 use Rattle.lot_store.specs.declared.book.Condition.TheVariants.{NeedsReopen as MustReopen, Ready}
-use Rattle.lot_store.specs.declared.fault.ApplyFault.{ApplyFault}
-use Rattle.lot_store.specs.declared.fault.ApplyFault.TheVariants as apply
 use Rattle.lot_store.specs.declared.fault.StoreFault.{StoreFault}
 use Rattle.lot_store.specs.declared.fault.StoreFault.TheVariants.{Damaged, Device, InDoubt, Memory, NeedsReopen}
 use Rattle.lot_store.specs.declared.run.Ending.{Ending}
@@ -58,36 +55,28 @@ line_cut (Err Write) old mid new text ending (prefix, (byte, rest, whole), writt
     (is, (prefix, (byte ∷ rest, whole), subst (Appends old new) (append-nil prefix) (Appends-trans old mid new prefix [] written flushed)))
 line_cut (Err Unwritten) old mid new text ending written (is, flushed) = (is, ([], (text, refl), Appends-trans old mid new [] [] written flushed))
 
-told_line : (number : ℕ) (answer : Result Ack ApplyFault) (verdict : Verdict) → told answer ≡ Ok verdict → answer_line number answer ≡ reply number verdict
-told_line number (Ok ack.Accepted) verdict is = let same : Accepted ≡ verdict = cc in ap (reply number) same
-told_line number (Ok ack.Repeat) verdict is = let same : Repeated ≡ verdict = cc in ap (reply number) same
-told_line number (Err (apply.Refused refusal)) verdict is = let same : Refused refusal ≡ verdict = cc in ap (reply number) same
-told_line number (Err (apply.Failed fault)) verdict is = absurd cc
-
-told_fault : (answer : Result Ack ApplyFault) (fault : StoreFault) → told answer ≡ Err fault → answer ≡ Err (apply.Failed fault)
-told_fault (Ok ack.Accepted) fault is = absurd cc
-told_fault (Ok ack.Repeat) fault is = absurd cc
-told_fault (Err (apply.Refused refusal)) fault is = absurd cc
-told_fault (Err (apply.Failed other)) fault is = let same : other ≡ fault = cc in ap (λ (f : StoreFault). Err (apply.Failed f)) same
-
-told_usable : (answer : Result Ack ApplyFault) (verdict : Verdict) → told answer ≡ Ok verdict → answer ≢ Err (apply.Failed NeedsReopen)
-told_usable answer verdict is spent = let none : Err NeedsReopen ≡ Ok verdict = sym (ap told spent) ∙ is in absurd cc
-
 module _ (Kept KeptThen : List Entry → Type 0) (key : Key) (command : Command) (number : ℕ) (old new : State) (before written : Option (List ℕ)) (condition : Condition)
-    (answer : Result Ack ApplyFault) (applies : AppliesWith Kept KeptThen key command old new answer) (fails : FailsFor Kept key command old new answer)
+    (answer : Result Verdict StoreFault) (applies : AppliesWith Kept KeptThen key command old new answer) (fails : FailsFor Kept key command old new answer)
     (by_text : IsByText key command old new answer) (after : condition ≡ condition_after answer) (ending : Ending) where
   -- the reply isn't written out
-  pub reply_cut : (verdict : Verdict) → told answer ≡ Ok verdict → WritesOut before written (reply number verdict) (Err ending)
+  pub reply_cut : (verdict : Verdict) → answer ≡ Ok verdict → WritesOut before written (reply number verdict) (Err ending)
       → RepliesTo Kept KeptThen key command number old new before written condition (Err ending)
-  reply_cut verdict is (cut, part) =
-      (answer, applies, fails, by_text, told_usable answer verdict is, after, inr (cut, subst (AppendsSome before written) (sym (told_line number answer verdict is)) part))
+  reply_cut verdict is (cut, part) = (
+    answer,
+    applies,
+    fails,
+    by_text,
+    (λ spent. let none : Err NeedsReopen ≡ Ok verdict = sym spent ∙ is in absurd cc),
+    after,
+    inr (cut, subst (λ (a : Result Verdict StoreFault). AppendsSome before written (answer_line number a)) (sym is) part),
+  )
 
   -- it stops at a fault
-  pub reply_stops : (fault : StoreFault) → told answer ≡ Err fault → (answer ≢ Err (apply.Failed NeedsReopen)) → StopsWith number fault before written ending
+  pub reply_stops : (fault : StoreFault) → answer ≡ Err fault → (answer ≢ Err NeedsReopen) → StopsWith number fault before written ending
       → RepliesTo Kept KeptThen key command number old new before written condition (Err ending)
-  reply_stops fault is usable (inl (stopped, printed)) = (answer, applies, fails, by_text, usable, after, inl (fault, told_fault answer fault is, stopped, printed))
+  reply_stops fault is usable (inl (stopped, printed)) = (answer, applies, fails, by_text, usable, after, inl (fault, is, stopped, printed))
   reply_stops fault is usable (inr (cut, part)) =
-      (answer, applies, fails, by_text, usable, after, inr (cut, subst (λ (a : Result Ack ApplyFault). AppendsSome before written (answer_line number a)) (sym (told_fault answer fault is)) part))
+      (answer, applies, fails, by_text, usable, after, inr (cut, subst (λ (a : Result Verdict StoreFault). AppendsSome before written (answer_line number a)) (sym (is)) part))
 
 pub ready_fault : (condition : Condition) (fault : StoreFault) → ready_of condition ≡ Err fault → fault ≡ NeedsReopen
 ready_fault Ready fault is = absurd cc
@@ -107,7 +96,7 @@ pub reply_usable : (Kept KeptThen : List Entry → Type 0) (key : Key) (command 
 reply_usable Kept KeptThen key command number old new before written condition ending (answer, applies, fails, by_text, usable, after, inl (fault, same, stopped, printed)) is =
     let both : Stopped fault ≡ Stopped NeedsReopen = sym stopped ∙ is in
     let equal : fault ≡ NeedsReopen = cc in
-    usable (same ∙ ap (λ (f : StoreFault). Err (apply.Failed f)) equal)
+    usable (same ∙ ap Err equal)
 reply_usable Kept KeptThen key command number old new before written condition ending (answer, applies, fails, by_text, usable, after, inr (cut, part)) is =
     let both : Output ≡ Stopped NeedsReopen = sym cut ∙ is in absurd cc
 
@@ -198,13 +187,6 @@ first_more entries commands more trees (verdicts, book, left, on, leaves) = (
   leaves,
 )
 
--- the next command is told with a verdict
-verdict_told : (answer : Result Ack ApplyFault) (verdict : Verdict) → told answer ≡ Ok verdict → verdict_of answer ≡ Some verdict
-verdict_told (Ok ack.Accepted) verdict is = let same : Accepted ≡ verdict = cc in ap Some same
-verdict_told (Ok ack.Repeat) verdict is = let same : Repeated ≡ verdict = cc in ap Some same
-verdict_told (Err (apply.Refused refusal)) verdict is = let same : Refused refusal ≡ verdict = cc in ap Some same
-verdict_told (Err (apply.Failed fault)) verdict is = absurd cc
-
 -- what is committed is left
 left_of : (s : State) (book : List Entry) (trees : Trees) → Stands s book → s.committed ≡ s.now → trees ≡ s.committed.trees → Left trees book
 left_of s book trees stands settled is = record {
@@ -276,21 +258,19 @@ module _ (entries : List Entry) (commands : List (Key × Command)) (verdicts : L
         stopped Repeated one there = (book, inl (next ∷ left, on), subst (Left trees) one.1 there)
         stopped (Refused refusal) one there = (book, inl (next ∷ left, on), subst (Left trees) one.1 there)
 
-    answer_stops : (answer : Result Ack ApplyFault) (left : List (Key × Command)) → Session entries commands verdicts book left → LeavesAtAnswer answer verdicts book left old new
+    answer_stops : (answer : Result Verdict StoreFault) (left : List (Key × Command)) → Session entries commands verdicts book left → LeavesAtAnswer answer verdicts book left old new
         → (trees : Trees) → new.may_leave trees → LeavesStopped entries commands verdicts trees
-    answer_stops (Ok ack.Accepted) left on = verdict_stops Accepted left on
-    answer_stops (Ok ack.Repeat) left on = verdict_stops Repeated left on
-    answer_stops (Err (apply.Refused refusal)) left on = verdict_stops (Refused refusal) left on
-    answer_stops (Err (apply.Failed fault)) left on = fault_stops fault left on
+    answer_stops (Ok verdict) left on = verdict_stops verdict left on
+    answer_stops (Err fault) left on = fault_stops fault left on
 
-    stops : (answer : Result Ack ApplyFault) (ending : Ending) (left : List (Key × Command)) → Session entries commands verdicts book left
+    stops : (answer : Result Verdict StoreFault) (ending : Ending) (left : List (Key × Command)) → Session entries commands verdicts book left
         → LeavesAfter verdicts book left old new answer ending → (trees : Trees) → new.may_leave trees → LeavesStopped entries commands verdicts trees
     stops answer Complete left on (all, stands, leaves) trees may = judged_stops left on trees (leaves trees may)
     stops answer (Stopped fault) left on leaves trees may = fault_stops fault left on leaves trees may
     stops answer Output left on leaves trees may = answer_stops answer left on leaves trees may
 
 -- a run of a session, from what it wrote and what it left
-run_of : (commands : List (Key × Command)) (from : ℕ) (old new : State) (before written : Option (List ℕ)) (answer : Result Ack ApplyFault) (end : RunEnd) (verdicts : List Verdict)
+run_of : (commands : List (Key × Command)) (from : ℕ) (old new : State) (before written : Option (List ℕ)) (answer : Result Verdict StoreFault) (end : RunEnd) (verdicts : List Verdict)
     → LeavesWhatStands old → Writes from verdicts answer end before written → EndsBehind (length commands) (length verdicts) answer end.ending
     → (HasCleanDisk new → (entries : List Entry) → Stands old entries
     → (book : List Entry) × (left : List (Key × Command)) × Session entries commands verdicts book left × LeavesAfter verdicts book left old new answer end.ending)
@@ -310,16 +290,16 @@ run_of commands from old new before written answer end verdicts stands_so writes
 }
 
 -- what a command may add is the book with its entry
-adds : (Before : List Entry → Type 0) (key : Key) (command : Command) (answer : Result Ack ApplyFault) (trees : Trees) (book : List Entry) → Before book → MayAdd Before key command answer trees
+adds : (Before : List Entry → Type 0) (key : Key) (command : Command) (answer : Result Verdict StoreFault) (trees : Trees) (book : List Entry) → Before book → MayAdd Before key command answer trees
     → LeavesEntry book key command trees
-adds Before key command (Ok ack.Accepted) trees book there add = add book there
-adds Before key command (Ok ack.Repeat) trees book there none = absurd none
-adds Before key command (Err (apply.Refused refusal)) trees book there none = absurd none
-adds Before key command (Err (apply.Failed InDoubt)) trees book there add = add book there
-adds Before key command (Err (apply.Failed Memory)) trees book there add = add book there
-adds Before key command (Err (apply.Failed Device)) trees book there none = absurd none
-adds Before key command (Err (apply.Failed NeedsReopen)) trees book there none = absurd none
-adds Before key command (Err (apply.Failed Damaged)) trees book there none = absurd none
+adds Before key command (Ok Accepted) trees book there add = add book there
+adds Before key command (Ok Repeated) trees book there none = absurd none
+adds Before key command (Ok (Refused refusal)) trees book there none = absurd none
+adds Before key command (Err InDoubt) trees book there add = add book there
+adds Before key command (Err Memory) trees book there add = add book there
+adds Before key command (Err Device) trees book there none = absurd none
+adds Before key command (Err NeedsReopen) trees book there none = absurd none
+adds Before key command (Err Damaged) trees book there none = absurd none
 
 module _ (Kept KeptThen : List Entry → Type 0) (rounding : Option Rounding) (asked : List (Key × Asked)) (done left : List (Key × Command)) (from refused number : ℕ)
     (old now new : State) (before mid written : Option (List ℕ)) (asks : Key × Asked) (next : Key × Command) (Next : List Entry → Type 0)
@@ -331,7 +311,7 @@ module _ (Kept KeptThen : List Entry → Type 0) (rounding : Option Rounding) (a
   count = omega (arith, numbered, so.counted)
 
   -- a crash may leave the first commands, with the next one too
-  first : (answer : Result Ack ApplyFault) → AppliesWith Kept KeptThen next.0 next.1 now new answer
+  first : (answer : Result Verdict StoreFault) → AppliesWith Kept KeptThen next.0 next.1 now new answer
       → Survives old new (λ trees. (entries : List Entry) → Stands old entries → LeavesFirst entries (done ++ next ∷ []) trees)
   first answer applies =
       survives_then old now new (λ trees. (entries : List Entry) → Stands old entries → LeavesFirst entries done trees) (MayAdd (StandsWith Kept now) next.0 next.1 answer)
@@ -352,7 +332,7 @@ module _ (Kept KeptThen : List Entry → Type 0) (rounding : Option Rounding) (a
       )) so.crash applies.crash
 
   -- the same of all commands
-  first_all : (answer : Result Ack ApplyFault) → AppliesWith Kept KeptThen next.0 next.1 now new answer
+  first_all : (answer : Result Verdict StoreFault) → AppliesWith Kept KeptThen next.0 next.1 now new answer
       → Survives old new (λ trees. (entries : List Entry) → Stands old entries → LeavesFirst entries (done ++ next ∷ left) trees)
   first_all answer applies =
       survives_weaker old new (λ trees. (entries : List Entry) → Stands old entries → LeavesFirst entries (done ++ next ∷ []) trees)
@@ -361,20 +341,19 @@ module _ (Kept KeptThen : List Entry → Type 0) (rounding : Option Rounding) (a
       (first_more entries (done ++ next ∷ []) left db (leaves entries stands))) (first answer applies)
 
   -- the next command is judged, and the book after it is what stands, and what a crash leaves
-  judges_next : (answer : Result Ack ApplyFault) (verdict : Verdict) → told answer ≡ Ok verdict → AppliesWith Kept KeptThen next.0 next.1 now new answer
+  judges_next : (verdict : Verdict) → AppliesWith Kept KeptThen next.0 next.1 now new (Ok verdict)
       → (IsTrue new.is_open → (trees : Trees) → new.may_leave trees → trees ≡ new.committed.trees) → HasCleanDisk new → (book : List Entry) → StandsWith Kept now book
       → (after : List Entry) × JudgesOn book next.0 next.1 verdict after × StandsWith KeptThen new after × ((trees : Trees) → new.may_leave trees → Left trees after)
-  judges_next answer verdict is applies safe clean book there =
-      let told_so = verdict_told answer verdict is in
-      let one = subst (λ o. IfSome o (λ v. (after : List Entry) × JudgesOn book next.0 next.1 v after × StandsWith KeptThen new after)) told_so (applies.judged clean book there) in
-      let set = subst (λ o. IfSome o (λ v. IsTrue new.is_open × (new.committed ≡ new.now))) told_so (applies.settled clean) in
+  judges_next verdict applies safe clean book there =
+      let one = applies.judged clean book there in
+      let set = applies.settled clean in
       (one.0, one.1, one.2, λ trees may. left_of new one.0 trees one.2.0 set.1 (safe set.0 trees may))
 
   pub so_far_next : (verdict : Verdict) (condition : Condition) → RepliesTo Kept KeptThen next.0 next.1 number now new mid written condition (Ok verdict)
       → (IsTrue new.is_open → (trees : Trees) → new.may_leave trees → trees ≡ new.committed.trees)
       → ((book : List Entry) → Next book → IsTurned rounding book asks next)
       → SoFar KeptThen Any rounding (asked ++ asks ∷ []) (done ++ next ∷ []) from (refused + count_refused (verdict ∷ [])) old new before written
-  so_far_next verdict condition (answer, applies, is_told, printed, by_text) safe known = record {
+  so_far_next verdict condition (applies, printed, by_text) safe known = record {
     verdicts = so.verdicts ++ verdict ∷ [];
     counted = length-append done (next ∷ []) ∙ ap (λ n. n + 1) so.counted ∙ sym (length-append so.verdicts (verdict ∷ []));
     refusals = ap (λ n. n + count_refused (verdict ∷ [])) so.refusals ∙ sym (refused_more so.verdicts verdict);
@@ -382,21 +361,18 @@ module _ (Kept KeptThen : List Entry → Type 0) (rounding : Option Rounding) (a
         (Appends-trans before mid written _ _ so.lines printed);
     judged = λ clean entries stands.
         let was = so.judged (omega (arith, clean, applies.crash.clean)) entries stands in
-        let one = judges_next answer verdict is_told applies safe clean was.0 was.2 in (
+        let one = judges_next verdict applies safe clean was.0 was.2 in (
           one.0,
           turns_more rounding entries asked done so.verdicts was.0 one.0 asks next verdict was.1 (known was.0 was.4) one.1,
           one.2,
           (λ trees may. inl (one.3 trees may)),
           tt,
         );
-    shut = λ clean is.
-        let set = subst (λ o. IfSome o (λ v. IsTrue new.is_open × (new.committed ≡ new.now))) (verdict_told answer verdict is_told) (applies.settled clean) in
-        absurd (true≢false (sym set.0 ∙ is));
-    crash = first answer applies;
+    shut = λ clean is. absurd (true≢false (sym (applies.settled clean).0 ∙ is));
+    crash = first (Ok verdict) applies;
     turned = λ clean tables has.
         let was = so.turned (omega (arith, clean, applies.crash.clean)) tables has in
-        let one : HasTurned was.0 next.0 next.1 new verdict =
-        subst (λ o. IfSome o (HasTurned was.0 next.0 next.1 new)) (verdict_told answer verdict is_told) (by_text clean was.0 was.2) in (
+        let one : HasTurned was.0 next.0 next.1 new verdict = by_text clean was.0 was.2 in (
           one.0,
           turn_more tables done so.verdicts was.0 one.0 next verdict was.1 one.1,
           one.2,
@@ -410,12 +386,12 @@ module _ (Kept KeptThen : List Entry → Type 0) (rounding : Option Rounding) (a
   session entries book turns = record { done = done; split = refl; judged = judged_so entries book turns }
 
   -- where nothing is added
-  kept_only : (answer : Result Ack ApplyFault) (applies : AppliesWith Kept KeptThen next.0 next.1 now new answer) → ((trees : Trees) → ¬ MayAdd (StandsWith Kept now) next.0 next.1 answer trees) → HasCleanDisk new
+  kept_only : (answer : Result Verdict StoreFault) (applies : AppliesWith Kept KeptThen next.0 next.1 now new answer) → ((trees : Trees) → ¬ MayAdd (StandsWith Kept now) next.0 next.1 answer trees) → HasCleanDisk new
       → (could : Trees → Type 0) (book : List Entry) → ((trees : Trees) → now.may_leave trees → LeavesJudged could so.verdicts book trees)
       → (trees : Trees) → new.may_leave trees → LeavesJudged could so.verdicts book trees
   kept_only answer applies none clean could book was trees may = elim (applies.crash.crash clean trees may) [ inl earlier ↦ was trees earlier | inr add ↦ absurd (none trees add) ]
 
-  leaves_next : (answer : Result Ack ApplyFault) (applies : AppliesWith Kept KeptThen next.0 next.1 now new answer) → HasCleanDisk new → (could : Trees → Type 0) (book : List Entry) → StandsWith Kept now book
+  leaves_next : (answer : Result Verdict StoreFault) (applies : AppliesWith Kept KeptThen next.0 next.1 now new answer) → HasCleanDisk new → (could : Trees → Type 0) (book : List Entry) → StandsWith Kept now book
       → ((trees : Trees) → now.may_leave trees → LeavesJudged could so.verdicts book trees)
       → (trees : Trees) → new.may_leave trees → LeavesNext could so.verdicts book (next ∷ left) trees
   leaves_next answer applies clean could book there was trees may = elim (applies.crash.crash clean trees may) [
@@ -424,13 +400,13 @@ module _ (Kept KeptThen : List Entry → Type 0) (rounding : Option Rounding) (a
   ]
 
   -- the disk failed during the run, or the database was shut before it
-  failed_since : (answer : Result Ack ApplyFault) → AppliesWith Kept KeptThen next.0 next.1 now new answer → HasCleanDisk new → DiskFailed now new → DiskFailed old new
+  failed_since : (answer : Result Verdict StoreFault) → AppliesWith Kept KeptThen next.0 next.1 now new answer → HasCleanDisk new → DiskFailed now new → DiskFailed old new
   failed_since answer applies clean (inl more) = inl (omega (arith, so.crash.counts, more))
   failed_since answer applies clean (inr closed) = inr (so.shut (omega (arith, clean, applies.crash.clean)) closed)
 
   -- the disk failed, or there is no room for the command
-  refused_for : (book : List Entry) → StandsWith Kept now book → AppliesWith Kept KeptThen next.0 next.1 now new (Err (apply.Failed Device))
-      → FailsFor Kept next.0 next.1 now new (Err (apply.Failed Device)) → HasCleanDisk new → DiskFailed old new ⊎ HasNoRoomForNext book (next ∷ left) new
+  refused_for : (book : List Entry) → StandsWith Kept now book → AppliesWith Kept KeptThen next.0 next.1 now new (Err Device)
+      → FailsFor Kept next.0 next.1 now new (Err Device) → HasCleanDisk new → DiskFailed old new ⊎ HasNoRoomForNext book (next ∷ left) new
   refused_for book there applies fails clean = elim (fails.device clean refl book there.0 there.1) [
     | inl failed ↦ failed_so failed
     | inr room ↦ elim (cases_Bool now.is_open) [
@@ -448,61 +424,58 @@ module _ (Kept KeptThen : List Entry → Type 0) (rounding : Option Rounding) (a
   ]
     where
       failed_so : DiskFailed now new → DiskFailed old new ⊎ HasNoRoomForNext book (next ∷ left) new
-      failed_so failed = inl (failed_since (Err (apply.Failed Device)) applies clean failed)
+      failed_so failed = inl (failed_since (Err Device) applies clean failed)
 
   -- what stands after a fault of the command
-  at_fault : (fault : StoreFault) → AppliesWith Kept KeptThen next.0 next.1 now new (Err (apply.Failed fault))
-      → FailsFor Kept next.0 next.1 now new (Err (apply.Failed fault)) → fault ≢ NeedsReopen → HasCleanDisk new
+  at_fault : (fault : StoreFault) → AppliesWith Kept KeptThen next.0 next.1 now new (Err fault)
+      → FailsFor Kept next.0 next.1 now new (Err fault) → fault ≢ NeedsReopen → HasCleanDisk new
       → (book : List Entry) → StandsWith Kept now book → ((trees : Trees) → now.may_leave trees → LeavesJudged old.may_leave so.verdicts book trees)
       → LeavesAtFault fault so.verdicts book (next ∷ left) old new
   at_fault Device applies fails usable clean book there was = (
     λ opened. stands_along now new book ((applies.rest clean).1 opened) there.0,
-    kept_only (Err (apply.Failed Device)) applies (λ trees none. none) clean old.may_leave book was,
+    kept_only (Err Device) applies (λ trees none. none) clean old.may_leave book was,
     refused_for book there applies fails clean,
   )
   at_fault InDoubt applies fails usable clean book there was = (
     λ opened. stands_along now new book ((applies.rest clean).1 opened) there.0,
-    leaves_next (Err (apply.Failed InDoubt)) applies clean old.may_leave book there was,
-    failed_since (Err (apply.Failed InDoubt)) applies clean (fails.in_doubt clean refl),
+    leaves_next (Err InDoubt) applies clean old.may_leave book there was,
+    failed_since (Err InDoubt) applies clean (fails.in_doubt clean refl),
   )
   at_fault Memory applies fails usable clean book there was = (
     λ opened. stands_along now new book ((applies.rest clean).1 opened) there.0,
-    leaves_next (Err (apply.Failed Memory)) applies clean old.may_leave book there was,
+    leaves_next (Err Memory) applies clean old.may_leave book there was,
   )
   at_fault NeedsReopen applies fails usable clean book there was = absurd (usable refl)
   at_fault Damaged applies fails usable clean book there was = applies.damaged clean refl book there
 
   -- what stands after a verdict on it, whose reply isn't written out
-  at_verdict : (answer : Result Ack ApplyFault) (verdict : Verdict) → told answer ≡ Ok verdict → AppliesWith Kept KeptThen next.0 next.1 now new answer
+  at_verdict : (verdict : Verdict) → AppliesWith Kept KeptThen next.0 next.1 now new (Ok verdict)
       → (IsTrue new.is_open → (trees : Trees) → new.may_leave trees → trees ≡ new.committed.trees) → HasCleanDisk new → (book : List Entry) → StandsWith Kept now book
       → LeavesAtVerdict verdict so.verdicts book (next ∷ left) old new
-  at_verdict answer verdict is applies safe clean book there =
-      let one = judges_next answer verdict is applies safe clean book there in (one.0, one.1, one.2.0, λ trees may. inl (one.3 trees may))
+  at_verdict verdict applies safe clean book there =
+      let one = judges_next verdict applies safe clean book there in (one.0, one.1, one.2.0, λ trees may. inl (one.3 trees may))
 
-  at_answer : (answer : Result Ack ApplyFault) → AppliesWith Kept KeptThen next.0 next.1 now new answer → FailsFor Kept next.0 next.1 now new answer → answer ≢ Err (apply.Failed NeedsReopen)
+  at_answer : (answer : Result Verdict StoreFault) → AppliesWith Kept KeptThen next.0 next.1 now new answer → FailsFor Kept next.0 next.1 now new answer → answer ≢ Err NeedsReopen
       → (IsTrue new.is_open → (trees : Trees) → new.may_leave trees → trees ≡ new.committed.trees) → HasCleanDisk new → (book : List Entry) → StandsWith Kept now book
       → ((trees : Trees) → now.may_leave trees → LeavesJudged old.may_leave so.verdicts book trees)
       → LeavesAtAnswer answer so.verdicts book (next ∷ left) old new
-  at_answer (Ok ack.Accepted) applies fails usable safe clean book there was = at_verdict (Ok ack.Accepted) Accepted refl applies safe clean book there
-  at_answer (Ok ack.Repeat) applies fails usable safe clean book there was = at_verdict (Ok ack.Repeat) Repeated refl applies safe clean book there
-  at_answer (Err (apply.Refused refusal)) applies fails usable safe clean book there was =
-      at_verdict (Err (apply.Refused refusal)) (Refused refusal) refl applies safe clean book there
-  at_answer (Err (apply.Failed fault)) applies fails usable safe clean book there was = at_fault fault applies fails (λ spent. usable (ap (λ (f : StoreFault). Err (apply.Failed f)) spent)) clean book there was
+  at_answer (Ok verdict) applies fails usable safe clean book there was = at_verdict verdict applies safe clean book there
+  at_answer (Err fault) applies fails usable safe clean book there was = at_fault fault applies fails (λ spent. usable (ap Err spent)) clean book there was
 
   here : length so.verdicts < length (done ++ next ∷ left)
   here = omega (arith, length-append done (next ∷ left), so.counted)
 
   -- the answer to the command on the tables before it
-  answers_next : (answer : Result Ack ApplyFault) → AppliesWith Kept KeptThen next.0 next.1 now new answer → FailsFor Kept next.0 next.1 now new answer
+  answers_next : (answer : Result Verdict StoreFault) → AppliesWith Kept KeptThen next.0 next.1 now new answer → FailsFor Kept next.0 next.1 now new answer
       → IsByText next.0 next.1 now new answer → HasCleanDisk new → (tables : Tables) → Has now tables
       → AnswersByText tables next.0 next.1 old new answer
   answers_next answer applies fails by_text clean tables has = record {
     damage = λ damaged. of_damage_since old now new (failed_since answer applies clean) answer (fails.damage clean tables has damaged);
-    leaves = leaves_by_text tables next.0 next.1 now new (verdict_of answer) (by_text clean tables has) (applies.rest clean) has;
+    leaves = leaves_by_text tables next.0 next.1 now new (result_ok answer) (by_text clean tables has) (applies.rest clean) has;
   }
 
   -- the run ends at it
-  texts_end : (answer : Result Ack ApplyFault) (ending : Ending) → AppliesWith Kept KeptThen next.0 next.1 now new answer → FailsFor Kept next.0 next.1 now new answer
+  texts_end : (answer : Result Verdict StoreFault) (ending : Ending) → AppliesWith Kept KeptThen next.0 next.1 now new answer → FailsFor Kept next.0 next.1 now new answer
       → IsByText next.0 next.1 now new answer
       → ((tables : Tables) → AnswersByText tables next.0 next.1 old new answer → EndsByText tables (next ∷ left) old new answer ending)
       → HasCleanDisk new → (tables : Tables) → Has old tables → RunsByText tables (done ++ next ∷ left) so.verdicts old new answer ending
@@ -518,7 +491,7 @@ module _ (Kept KeptThen : List Entry → Type 0) (rounding : Option Rounding) (a
       }
 
   -- what was written up to the end, and what stands then
-  ends_so : (answer : Result Ack ApplyFault) (ending : Ending) → LeavesWhatStands old → AppliesWith Kept KeptThen next.0 next.1 now new answer → WritesEnd from so.verdicts answer ending before written
+  ends_so : (answer : Result Verdict StoreFault) (ending : Ending) → LeavesWhatStands old → AppliesWith Kept KeptThen next.0 next.1 now new answer → WritesEnd from so.verdicts answer ending before written
       → EndsBehind (length (done ++ next ∷ left)) (length so.verdicts) answer ending
       → (HasCleanDisk new → (book : List Entry) → StandsWith Kept now book → ((trees : Trees) → now.may_leave trees → LeavesJudged old.may_leave so.verdicts book trees)
       → LeavesAfter so.verdicts book (next ∷ left) old new answer ending)
@@ -532,7 +505,7 @@ module _ (Kept KeptThen : List Entry → Type 0) (rounding : Option Rounding) (a
       (was.0, next ∷ left, session entries was.0 was.1, leaves clean was.0 was.2 was.3)) (first_all answer applies) texts
 
   -- what is judged in the place of what was handed in, with the command at which the run ends
-  turned_so : (answer : Result Ack ApplyFault) (rest : List (Key × Asked)) → left ≡ map handed rest → AppliesWith Kept KeptThen next.0 next.1 now new answer
+  turned_so : (answer : Result Verdict StoreFault) (rest : List (Key × Asked)) → left ≡ map handed rest → AppliesWith Kept KeptThen next.0 next.1 now new answer
       → ((book : List Entry) → Next book → IsLastTurned (is_judged answer) rounding book asks next)
       → HasCleanDisk new → (entries : List Entry) → Stands old entries → AreTurned rounding entries (asked ++ asks ∷ rest) (done ++ next ∷ left) (length done) answer
   turned_so answer rest are applies known clean entries stands =
@@ -562,7 +535,7 @@ module _ (Kept KeptThen : List Entry → Type 0) (rounding : Option Rounding) (a
       answer,
       ends_so answer (Stopped fault) stands_so applies
           (subst (λ n. Appends before written (replies from so.verdicts ++ fault_line n fault)) count (Appends-trans before mid written _ _ so.lines printed)) (inl here)
-          (at_fault fault (subst (AppliesWith Kept KeptThen next.0 next.1 now new) is applies) (subst (FailsFor Kept next.0 next.1 now new) is fails) (λ spent. usable (is ∙ ap (λ (f : StoreFault). Err (apply.Failed f)) spent)))
+          (at_fault fault (subst (AppliesWith Kept KeptThen next.0 next.1 now new) is applies) (subst (FailsFor Kept next.0 next.1 now new) is fails) (λ spent. usable (is ∙ ap Err spent)))
           (texts_end answer (Stopped fault) applies fails by_text (λ tables answers. subst (AnswersByText tables next.0 next.1 old new) is answers)),
       (λ ready. usable),
       after ∙ ap condition_after is,
@@ -591,8 +564,8 @@ pub run_completes : (Kept : List Entry → Type 0) (rounding : Option Rounding) 
 run_completes Kept rounding asked done from refused old new before written was condition so ready stands_so = (
   done,
   (
-    Ok ack.Accepted,
-    run_of done from old new before written (Ok ack.Accepted) (record { replied = length done; refused = refused; ending = Complete }) so.verdicts stands_so
+    Ok Accepted,
+    run_of done from old new before written (Ok Accepted) (record { replied = length done; refused = refused; ending = Complete }) so.verdicts stands_so
         (record { replied = so.counted; refused = so.refusals; lines = so.lines }) (sym so.counted)
         (λ clean entries stands.
         let was = so.judged clean entries stands in (
@@ -630,8 +603,8 @@ pub run_needs_reopening : (rounding : Option Rounding) (asked : List (Key × Ask
 run_needs_reopening rounding asked from old before written ending condition stops_so spent stands_so = (
   map handed asked,
   (
-    Err (apply.Failed NeedsReopen),
-    run_of (map handed asked) from old old before written (Err (apply.Failed NeedsReopen)) (record { replied = 0; refused = 0; ending = ending }) [] stands_so
+    Err NeedsReopen,
+    run_of (map handed asked) from old old before written (Err NeedsReopen) (record { replied = 0; refused = 0; ending = ending }) [] stands_so
         (record { replied = refl; refused = refl; lines = lines stops_so }) (place stops_so)
         (λ clean entries stands. (entries, map handed asked, record { done = []; split = refl; judged = refl }, leaves stops_so entries stands)) (survives_same old _)
         (λ clean tables has. record { done = []; left = map handed asked; split = refl; after = tables; turn = refl; ends = texts stops_so tables has (map handed asked) }),
@@ -656,7 +629,7 @@ run_needs_reopening rounding asked from old before written ending condition stop
     zero-on : (n : ℕ) → n ≡ length {A = Verdict} [] + n
     zero-on n = omega arith
 
-    lines : StopsWith from NeedsReopen before written ending → WritesEnd from [] (Err (apply.Failed NeedsReopen)) ending before written
+    lines : StopsWith from NeedsReopen before written ending → WritesEnd from [] (Err NeedsReopen) ending before written
     lines (inl (is, printed)) = rw is (subst (λ n. Appends before written ([] ++ fault_line n NeedsReopen)) (zero-on from) printed)
     lines (inr (is, part)) = rw is (part.0, subst (λ n. IsPrefixOf part.0 (fault_line n NeedsReopen)) (zero-on from) part.1, part.2)
 
@@ -664,23 +637,23 @@ run_needs_reopening rounding asked from old before written ending condition stop
     as_handed book [] = tt
     as_handed book (one ∷ more) = (inr refl, refl)
 
-    place : StopsWith from NeedsReopen before written ending → EndsBehind (length (map handed asked)) 0 (Err (apply.Failed NeedsReopen)) ending
+    place : StopsWith from NeedsReopen before written ending → EndsBehind (length (map handed asked)) 0 (Err NeedsReopen) ending
     place (inl (is, printed)) = rw is (inr (refl, refl))
     place (inr (is, part)) = rw is (inr (refl, refl))
 
-    leaves : StopsWith from NeedsReopen before written ending → (entries : List Entry) → Stands old entries → LeavesAfter [] entries (map handed asked) old old (Err (apply.Failed NeedsReopen)) ending
+    leaves : StopsWith from NeedsReopen before written ending → (entries : List Entry) → Stands old entries → LeavesAfter [] entries (map handed asked) old old (Err NeedsReopen) ending
     leaves (inl (is, printed)) entries stands = rw is (refl, stands, λ trees may. inr (refl, may))
     leaves (inr (is, part)) entries stands = rw is (refl, stands, λ trees may. inr (refl, may))
 
-    spent_answer : (tables : Tables) → Has old tables → (cs : List (Key × Command)) → AnswersFirst tables cs old old (Err (apply.Failed NeedsReopen))
+    spent_answer : (tables : Tables) → Has old tables → (cs : List (Key × Command)) → AnswersFirst tables cs old old (Err NeedsReopen)
     spent_answer tables has [] = tt
     spent_answer tables has (next ∷ left) = record { damage = λ damaged. tt; leaves = λ opened. has }
 
     texts : StopsWith from NeedsReopen before written ending → (tables : Tables) → Has old tables → (cs : List (Key × Command))
-        → EndsByText tables cs old old (Err (apply.Failed NeedsReopen)) ending
+        → EndsByText tables cs old old (Err NeedsReopen) ending
     texts (inl (is, printed)) tables has cs = rw is (spent_answer tables has cs)
     texts (inr (is, part)) tables has cs = rw is (spent_answer tables has cs)
 
-    after : StopsWith from NeedsReopen before written ending → IsConditionAfter (Err (apply.Failed NeedsReopen)) ending condition
+    after : StopsWith from NeedsReopen before written ending → IsConditionAfter (Err NeedsReopen) ending condition
     after (inl (is, printed)) = rw is spent
     after (inr (is, part)) = rw is spent

@@ -50,7 +50,6 @@ use Rattle.lot_store.specs.Step.{condition_from}
 use Rattle.lot_store.specs.Turned.{IsLastTurned, IsTrial, IsTried, IsTurned, RunsTurned, TurnsTo, handed, is_judged, judged_of, refusal_of}
 use Rattle.lot_store.specs.declared.book.Condition.{Condition}
 use Rattle.lot_store.specs.declared.book.Condition.TheVariants.{Ready}
-use Rattle.lot_store.specs.declared.fault.ApplyFault.TheVariants as apply
 use Rattle.lot_store.specs.declared.fault.StoreFault.{StoreFault}
 use Rattle.lot_store.specs.declared.fault.StoreFault.TheVariants.{Damaged, Device, InDoubt, Memory, NeedsReopen}
 use Rattle.lot_store.specs.declared.run.Ending.{Ending}
@@ -63,7 +62,7 @@ use Rattle.lot_store.proofs.RunLemmas.{Any, SoFar, LeavesWhatStands, run_ends, s
 
 -- what was handed in is what is left where a fault comes as its turn is worked out
 handed_last : (fault : StoreFault) → fault ≢ InDoubt → (rounding : Option Rounding) (book : List Entry) (asked : Key × Asked)
-    → IsLastTurned (is_judged (Err (apply.Failed fault))) rounding book asked (handed asked)
+    → IsLastTurned (is_judged (Err fault)) rounding book asked (handed asked)
 handed_last Device sure rounding book asked = inr refl
 handed_last Damaged sure rounding book asked = inr refl
 handed_last Memory sure rounding book asked = inr refl
@@ -372,23 +371,23 @@ module _ (Kept KeptThen : List Entry → Type 0) (rounding : Option Rounding) (a
 
   module _ (fault : StoreFault) (turned : TurnsTo Kept KeptThen rounding keyed now new (Err fault)) where
     -- a fault as it is worked out is one of the command that was handed in
-    applies_not : AppliesWith Kept KeptThen keyed.0 keyed.1.command now new (Err (apply.Failed fault))
+    applies_not : AppliesWith Kept KeptThen keyed.0 keyed.1.command now new (Err fault)
     applies_not = record {
       judged = λ clean entries there. tt;
       settled = λ clean. tt;
       rest = turned.rest;
       damaged = λ clean is entries there. let same : fault ≡ Damaged = cc in turned.damaged clean (ap Err same) entries there;
-      crash = leaves_none now new (MayAdd (StandsWith Kept now) keyed.0 keyed.1.command (Err (apply.Failed fault))) turned.crash;
+      crash = leaves_none now new (MayAdd (StandsWith Kept now) keyed.0 keyed.1.command (Err fault)) turned.crash;
     }
 
-    fails_so : FailsFor Kept keyed.0 keyed.1.command now new (Err (apply.Failed fault))
+    fails_so : FailsFor Kept keyed.0 keyed.1.command now new (Err fault)
     fails_so = record {
       device = λ clean is entries stands kept. let same : fault ≡ Device = cc in inl (turned.device clean (ap Err same));
       in_doubt = λ clean is. let same : fault ≡ InDoubt = cc in absurd (turned.sure (ap Err same));
       damage = λ clean tables has damaged. of_damage clean fault refl;
     }
       where
-        of_damage : HasCleanDisk new → (f : StoreFault) → f ≡ fault → IsOfDamage now new (Err (apply.Failed f))
+        of_damage : HasCleanDisk new → (f : StoreFault) → f ≡ fault → IsOfDamage now new (Err f)
         of_damage clean Damaged is = tt
         of_damage clean Memory is = tt
         of_damage clean NeedsReopen is = tt
@@ -396,19 +395,19 @@ module _ (Kept KeptThen : List Entry → Type 0) (rounding : Option Rounding) (a
         of_damage clean InDoubt is = absurd (turned.sure (ap Err (sym is)))
 
     ends_at : (number : ℕ) (written : Option (List ℕ)) (ending : Ending) → StopsWith number fault mid written ending
-        → EndsAt number (Err (apply.Failed fault)) mid written ending
+        → EndsAt number (Err fault) mid written ending
     ends_at number written ending (inl (stopped, printed)) = inl (fault, refl, stopped, printed)
     ends_at number written ending (inr (cut, part)) = inr (cut, part)
 
     -- the run ends at it
     pub turn_ends : (number : ℕ) (written : Option (List ℕ)) (ending : Ending) (was condition : Condition) (rest : List (Key × Asked)) → StopsWith number fault mid written ending
-        → condition ≡ condition_after (Err (apply.Failed fault)) → number ≡ from + length done
+        → condition ≡ condition_after (Err fault) → number ≡ from + length done
         → (IsTrue new.is_open → (trees : Trees) → new.may_leave trees → trees ≡ new.committed.trees) → LeavesWhatStands old
         → RunsTurned rounding (asked ++ keyed ∷ rest) from old new before written was condition (record { replied = length done; refused = refused; ending = ending })
     turn_ends number written ending was condition rest stops after numbered safe stands_so =
         run_ends Kept KeptThen rounding asked done (map handed rest) from refused number old now new before mid written keyed (handed keyed) Any so numbered
         ending was condition rest refl (
-          Err (apply.Failed fault),
+          Err fault,
           applies_not,
           fails_so,
           (λ clean tables has. tt),
@@ -459,7 +458,7 @@ module _ (commands : List (Key × Asked)) (index from refused : ℕ) (rounding :
 
   -- the run ends as its turn is worked out
   pub fault_ends : (fault : StoreFault) → TurnsTo Kept KeptMid rounding next now mid (Err fault) → (later : Option (List ℕ)) (ending : Ending) (was condition : Condition)
-      → StopsWith (from + index) fault written later ending → condition ≡ condition_after (Err (apply.Failed fault)) → LeavesWhatStands old
+      → StopsWith (from + index) fault written later ending → condition ≡ condition_after (Err fault) → LeavesWhatStands old
       → RunsTurned rounding commands from old mid before later was condition (record { replied = index; refused = refused; ending = ending })
   fault_ends fault turned later ending was condition stops after stands_so =
       of_all mid later was condition ending
@@ -507,7 +506,7 @@ module _ (commands : List (Key × Asked)) (index from refused : ℕ) (rounding :
     )
 
 -- the condition of a book that could be used, after a fault as a turn is worked out
-pub condition_turned : (A : Type 0) (fault : StoreFault) → fault ≢ InDoubt → fault ≢ NeedsReopen → condition_from {A = A} Ready (Err fault) ≡ condition_after (Err (apply.Failed fault))
+pub condition_turned : (A : Type 0) (fault : StoreFault) → fault ≢ InDoubt → fault ≢ NeedsReopen → condition_from {A = A} Ready (Err fault) ≡ condition_after (Err fault)
 condition_turned A Device sure usable = refl
 condition_turned A Damaged sure usable = refl
 condition_turned A Memory sure usable = refl

@@ -1,5 +1,6 @@
 -- What applying one command says of a book in a file.
 use Rattle.std.specs.Prelude.{◌≡◌, ◌⊎◌, IfSome, IsTrue, List, None, Ok, Err, Option, Result, Some}
+use Rattle.std.specs.Result.{result_ok}
 use Rattle.sqlite.specs.State.{HasCleanDisk, IsUnchanged, KeepsCommit, State, Survives}
 use Rattle.sqlite.specs.Tree.{Trees}
 use Rattle.lot_command.specs.declared.command.Command.{Command}
@@ -22,12 +23,8 @@ use Rattle.lot_table.specs.declared.fault.Fault as table
 use Rattle.sqlite.specs.declared.error.Error.{Error}
 use Rattle.sqlite.specs.declared.error.Error.TheVariants.{SqliteFailure}
 use Rattle.sqlite.specs.declared.error.ErrorCode.TheVariants as code
-use Rattle.lot_store.specs.declared.book.Ack.{Ack}
-use Rattle.lot_store.specs.declared.book.Ack.TheVariants as ack
 use Rattle.lot_store.specs.declared.book.Condition.{Condition}
 use Rattle.lot_store.specs.declared.book.Condition.TheVariants.{Ready, NeedsReopen as MustReopen}
-use Rattle.lot_store.specs.declared.fault.ApplyFault.{ApplyFault}
-use Rattle.lot_store.specs.declared.fault.ApplyFault.TheVariants.{Refused, Failed}
 use Rattle.lot_store.specs.declared.fault.StoreFault.{StoreFault}
 use Rattle.lot_store.specs.declared.fault.StoreFault.TheVariants.{Device, InDoubt, NeedsReopen, Damaged, Memory}
 use Rattle.lot_store.specs.Damage.{MeetsDamage}
@@ -57,14 +54,13 @@ ready_of Ready = Ok tt
 ready_of MustReopen = Err NeedsReopen
 
 -- after a failure of the device, and after one in doubt, a book needs reopening
-abbrev pub condition_after : Result Ack ApplyFault → Condition
-condition_after (Ok ack) = Ready
-condition_after (Err (Refused refusal)) = Ready
-condition_after (Err (Failed Device)) = MustReopen
-condition_after (Err (Failed InDoubt)) = MustReopen
-condition_after (Err (Failed NeedsReopen)) = MustReopen
-condition_after (Err (Failed Damaged)) = Ready
-condition_after (Err (Failed Memory)) = Ready
+abbrev pub condition_after : Result Verdict StoreFault → Condition
+condition_after (Ok judged) = Ready
+condition_after (Err Device) = MustReopen
+condition_after (Err InDoubt) = MustReopen
+condition_after (Err NeedsReopen) = MustReopen
+condition_after (Err Damaged) = Ready
+condition_after (Err Memory) = Ready
 
 -- ---- writing in one commit
 
@@ -86,24 +82,17 @@ MayWrite writes old (Err Damaged) trees = ⊥
 
 -- ---- applying a command
 
--- the verdict that an answer tells, if it tells one
-abbrev pub verdict_of : Result Ack ApplyFault → Option Verdict
-verdict_of (Ok ack.Accepted) = Some verdict.Accepted
-verdict_of (Ok ack.Repeat) = Some verdict.Repeated
-verdict_of (Err (Refused refusal)) = Some (verdict.Refused refusal)
-verdict_of (Err (Failed fault)) = None
-
 -- What a crash may leave anew, by the answer: the book with the entry of the command. This is where it is committed, where
 -- nobody knows, or where memory refused the commit.
-abbrev pub MayAdd : (List Entry → Type 0) → Key → Command → Result Ack ApplyFault → Trees → Type 0
-MayAdd Before key command (Ok ack.Accepted) trees = (entries : List Entry) → Before entries → LeavesEntry entries key command trees
-MayAdd Before key command (Err (Failed InDoubt)) trees = (entries : List Entry) → Before entries → LeavesEntry entries key command trees
-MayAdd Before key command (Err (Failed Memory)) trees = (entries : List Entry) → Before entries → LeavesEntry entries key command trees
-MayAdd Before key command (Ok ack.Repeat) trees = ⊥
-MayAdd Before key command (Err (Refused refusal)) trees = ⊥
-MayAdd Before key command (Err (Failed Device)) trees = ⊥
-MayAdd Before key command (Err (Failed NeedsReopen)) trees = ⊥
-MayAdd Before key command (Err (Failed Damaged)) trees = ⊥
+abbrev pub MayAdd : (List Entry → Type 0) → Key → Command → Result Verdict StoreFault → Trees → Type 0
+MayAdd Before key command (Ok verdict.Accepted) trees = (entries : List Entry) → Before entries → LeavesEntry entries key command trees
+MayAdd Before key command (Ok verdict.Repeated) trees = ⊥
+MayAdd Before key command (Ok (verdict.Refused refusal)) trees = ⊥
+MayAdd Before key command (Err InDoubt) trees = (entries : List Entry) → Before entries → LeavesEntry entries key command trees
+MayAdd Before key command (Err Memory) trees = (entries : List Entry) → Before entries → LeavesEntry entries key command trees
+MayAdd Before key command (Err Device) trees = ⊥
+MayAdd Before key command (Err NeedsReopen) trees = ⊥
+MayAdd Before key command (Err Damaged) trees = ⊥
 
 -- a repeated command and a refused one change nothing
 abbrev pub LeavesAlone : Option Verdict → State → State → Type 0
@@ -113,20 +102,20 @@ LeavesAlone (Some (verdict.Refused refusal)) old new = IsUnchanged old new
 LeavesAlone None old new = KeepsCommit old new × (IsTrue new.is_open → new.now ≡ old.now)
 
 -- what applying a command comes to, where `Before` tells which book is there before it, and `After` which one after it
-pub record AppliesOn (Before After : List Entry → Type 0) (key : Key) (command : Command) (old new : State) (result : Result Ack ApplyFault) : Type 0 where
+pub record AppliesOn (Before After : List Entry → Type 0) (key : Key) (command : Command) (old new : State) (result : Result Verdict StoreFault) : Type 0 where
   -- where a book is there, the verdict is that of a step of edition 2 on it, and the book after the step is there then
   pub judged : HasCleanDisk new → (entries : List Entry) → Before entries
-      → IfSome (verdict_of result) (λ verdict. (after : List Entry) × JudgesOn entries key command verdict after × After after)
+      → IfSome (result_ok result) (λ verdict. (after : List Entry) × JudgesOn entries key command verdict after × After after)
   -- with the verdict all is committed
-  pub settled : HasCleanDisk new → IfSome (verdict_of result) (λ verdict. IsTrue new.is_open × (new.committed ≡ new.now))
+  pub settled : HasCleanDisk new → IfSome (result_ok result) (λ verdict. IsTrue new.is_open × (new.committed ≡ new.now))
   -- without one the last commit stands, and while the connection is open its tables are as they were
-  pub rest : HasCleanDisk new → LeavesAlone (verdict_of result) old new
+  pub rest : HasCleanDisk new → LeavesAlone (result_ok result) old new
   -- damage is found only where no book is there
-  pub damaged : HasCleanDisk new → result ≡ Err (Failed Damaged) → (entries : List Entry) → ¬ Before entries
+  pub damaged : HasCleanDisk new → result ≡ Err Damaged → (entries : List Entry) → ¬ Before entries
   pub crash : Survives old new (MayAdd Before key command result)
 
 -- the same of each book that the tables stand for
-abbrev pub Applies : Key → Command → State → State → Result Ack ApplyFault → Type 0
+abbrev pub Applies : Key → Command → State → State → Result Verdict StoreFault → Type 0
 Applies key command old new = AppliesOn (Stands old) (Stands new) key command old new
 
 -- the tables stand for a book, and what is kept is of it
@@ -134,7 +123,7 @@ abbrev pub StandsWith : (List Entry → Type 0) → State → List Entry → Typ
 StandsWith Kept s entries = Stands s entries × Kept entries
 
 -- the same as `Applies` of the books that what is kept before it is of; what is kept then is of the book after it
-abbrev pub AppliesWith : (Kept KeptThen : List Entry → Type 0) → Key → Command → State → State → Result Ack ApplyFault → Type 0
+abbrev pub AppliesWith : (Kept KeptThen : List Entry → Type 0) → Key → Command → State → State → Result Verdict StoreFault → Type 0
 AppliesWith Kept KeptThen key command old new = AppliesOn (StandsWith Kept old) (StandsWith KeptThen new) key command old new
 
 -- ---- a device that refuses
@@ -161,7 +150,7 @@ RefusedByDeviceWith Kept key command old new =
 
 -- why applying a command fails: where the device refuses it, its commit is in doubt, or a damaged text stands under its key
 pub record FailsFor (Kept : List Entry → Type 0) (key : Key) (command : Command) (old new : State)
-    (result : Result Ack ApplyFault) : Type 0 where
-  pub device : HasCleanDisk new → result ≡ Err (Failed Device) → RefusedByDeviceWith Kept key command old new
-  pub in_doubt : HasCleanDisk new → result ≡ Err (Failed InDoubt) → DiskFailed old new
+    (result : Result Verdict StoreFault) : Type 0 where
+  pub device : HasCleanDisk new → result ≡ Err Device → RefusedByDeviceWith Kept key command old new
+  pub in_doubt : HasCleanDisk new → result ≡ Err InDoubt → DiskFailed old new
   pub damage : MeetsDamage key old new result

@@ -1,5 +1,6 @@
 -- What commands come to on tables, whatever these stand for: by the texts under their keys (docs/RULES.md, Keys and repeats).
 use Rattle.std.specs.Prelude.{◌≡◌, List, [], ◌∷◌, ◌++◌, IfSome, IsTrue, Option, None, Some, Result, Err, ⊤}
+use Rattle.std.specs.Result.{result_ok}
 use Rattle.sqlite.specs.State.{HasCleanDisk, State}
 use Rattle.lot_command.specs.Canonical.{canonical}
 use Rattle.lot_command.specs.declared.command.Command.{Command}
@@ -13,11 +14,8 @@ use Rattle.lot_load.specs.Damage.{HasDamagedText, HasText}
 use Rattle.lot_rows.specs.Tables.{Has, Tables}
 use Rattle.lot_write.specs.Write.{written_all}
 use Rattle.lot_write.specs.Writes.{writes_of}
-use Rattle.lot_store.specs.Apply.{verdict_of}
+use Rattle.lot_store.specs.declared.fault.StoreFault.{StoreFault}
 use Rattle.lot_store.specs.Damage.{IsOfDamage}
-use Rattle.lot_store.specs.declared.book.Ack.{Ack}
-use Rattle.lot_store.specs.declared.fault.ApplyFault.{ApplyFault}
-use Rattle.lot_store.specs.declared.fault.ApplyFault.TheVariants as apply
 use Rattle.lot_store.specs.declared.run.Ending.{Ending}
 use Rattle.lot_store.specs.declared.run.Ending.TheVariants.{Complete, Output, Stopped}
 
@@ -43,9 +41,9 @@ abbrev pub HasTurned : Tables → Key → Command → State → Verdict → Type
 HasTurned tables key command new verdict = (after : Tables) × TurnsByText tables key command verdict after × Has new after
 
 -- so is a verdict on any tables
-abbrev pub IsByText : Key → Command → State → State → Result Ack ApplyFault → Type 0
+abbrev pub IsByText : Key → Command → State → State → Result Verdict StoreFault → Type 0
 IsByText key command old new answer =
-    HasCleanDisk new → (tables : Tables) → Has old tables → IfSome (verdict_of answer) (HasTurned tables key command new)
+    HasCleanDisk new → (tables : Tables) → Has old tables → IfSome (result_ok answer) (HasTurned tables key command new)
 
 -- ---- a run
 
@@ -63,26 +61,26 @@ LeavesByText None tables key command new = IsTrue new.is_open → Has new tables
 LeavesByText (Some verdict) tables key command new = HasTurned tables key command new verdict
 
 -- the answer to a command on these tables: with a damaged text under its key it tells of the damage, or of what may come before
-pub record AnswersByText (tables : Tables) (key : Key) (command : Command) (old new : State) (answer : Result Ack ApplyFault)
+pub record AnswersByText (tables : Tables) (key : Key) (command : Command) (old new : State) (answer : Result Verdict StoreFault)
     : Type 0 where
   pub damage : HasDamagedText tables key → IsOfDamage old new answer
-  pub leaves : LeavesByText (verdict_of answer) tables key command new
+  pub leaves : LeavesByText (result_ok answer) tables key command new
 
 -- the same of the answer to the first of these commands
-abbrev pub AnswersFirst : Tables → List (Key × Command) → State → State → Result Ack ApplyFault → Type 0
+abbrev pub AnswersFirst : Tables → List (Key × Command) → State → State → Result Verdict StoreFault → Type 0
 AnswersFirst tables [] old new answer = ⊤
 AnswersFirst tables (next ∷ left) old new answer = AnswersByText tables next.0 next.1 old new answer
 
 -- how a run ends on these tables, with these commands left: behind all, or at the first of them; where the writer failed that
 -- one has the answer
-abbrev pub EndsByText : Tables → List (Key × Command) → State → State → Result Ack ApplyFault → Ending → Type 0
+abbrev pub EndsByText : Tables → List (Key × Command) → State → State → Result Verdict StoreFault → Ending → Type 0
 EndsByText tables left old new answer Complete = (left ≡ []) × Has new tables
-EndsByText tables left old new answer (Stopped fault) = AnswersFirst tables left old new (Err (apply.Failed fault))
+EndsByText tables left old new answer (Stopped fault) = AnswersFirst tables left old new (Err fault)
 EndsByText tables left old new answer Output = AnswersFirst tables left old new answer
 
 -- a run of commands on tables, whatever these stand for: the first of them came to the verdicts, and it ended behind those
 pub record RunsByText (tables : Tables) (commands : List (Key × Command)) (verdicts : List Verdict) (old new : State)
-    (answer : Result Ack ApplyFault) (ending : Ending) : Type 0 where
+    (answer : Result Verdict StoreFault) (ending : Ending) : Type 0 where
   pub done : List (Key × Command)
   pub left : List (Key × Command)
   pub split : commands ≡ done ++ left

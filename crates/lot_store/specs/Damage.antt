@@ -5,23 +5,21 @@ use Rattle.lot_command.specs.declared.key.Key.{Key}
 use Rattle.lot_load.specs.Damage.{HasDamagedText}
 use Rattle.lot_rows.specs.Tables.{Has, Tables}
 use Rattle.lot_table.specs.Statement.{DiskFailed}
-use Rattle.lot_store.specs.declared.book.Ack.{Ack}
-use Rattle.lot_store.specs.declared.fault.ApplyFault.{ApplyFault}
-use Rattle.lot_store.specs.declared.fault.ApplyFault.TheVariants as apply
+use Rattle.lot_book.specs.declared.verdict.Verdict.{Verdict}
+use Rattle.lot_store.specs.declared.fault.StoreFault.{StoreFault}
 use Rattle.lot_store.specs.declared.fault.StoreFault.TheVariants.{Damaged, Device, InDoubt, Memory, NeedsReopen}
 
 -- The answer to a command under whose key a damaged text stands. It is that the tables are damaged, or what may come before
 -- the text is read: out of memory, that the disk failed, or that the book needs reopening.
-abbrev pub IsOfDamage : State → State → Result Ack ApplyFault → Type 0
-IsOfDamage old new (Ok ack) = ⊥
-IsOfDamage old new (Err (apply.Refused refusal)) = ⊥
-IsOfDamage old new (Err (apply.Failed Damaged)) = ⊤
-IsOfDamage old new (Err (apply.Failed Memory)) = ⊤
-IsOfDamage old new (Err (apply.Failed Device)) = DiskFailed old new
-IsOfDamage old new (Err (apply.Failed NeedsReopen)) = ⊤
-IsOfDamage old new (Err (apply.Failed InDoubt)) = ⊥
+abbrev pub IsOfDamage : State → State → Result Verdict StoreFault → Type 0
+IsOfDamage old new (Ok verdict) = ⊥
+IsOfDamage old new (Err Damaged) = ⊤
+IsOfDamage old new (Err Memory) = ⊤
+IsOfDamage old new (Err Device) = DiskFailed old new
+IsOfDamage old new (Err NeedsReopen) = ⊤
+IsOfDamage old new (Err InDoubt) = ⊥
 
 -- so is the answer on any tables with such a text
-abbrev pub MeetsDamage : Key → State → State → Result Ack ApplyFault → Type 0
+abbrev pub MeetsDamage : Key → State → State → Result Verdict StoreFault → Type 0
 MeetsDamage key old new answer =
     HasCleanDisk new → (tables : Tables) → Has old tables → HasDamagedText tables key → IsOfDamage old new answer

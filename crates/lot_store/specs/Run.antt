@@ -20,12 +20,8 @@ use Rattle.lot_table.specs.Statement.{DiskFailed}
 use Rattle.lot_store.specs.Apply.{AppliesWith, FailsFor, HasNoRoomFor, condition_after}
 use Rattle.lot_store.specs.ByText.{IsByText, RunsByText}
 use Rattle.lot_store.specs.Session.{LeavesFirst, LeavesJudged, LeavesNext, LeavesStopped, Session}
-use Rattle.lot_store.specs.declared.book.Ack.{Ack}
-use Rattle.lot_store.specs.declared.book.Ack.TheVariants as ack
 use Rattle.lot_store.specs.declared.book.Condition.{Condition}
 use Rattle.lot_store.specs.declared.book.Condition.TheVariants.{Ready}
-use Rattle.lot_store.specs.declared.fault.ApplyFault.{ApplyFault}
-use Rattle.lot_store.specs.declared.fault.ApplyFault.TheVariants as apply
 use Rattle.lot_store.specs.declared.fault.StoreFault.{StoreFault}
 use Rattle.lot_store.specs.declared.fault.StoreFault.TheVariants.{Damaged, Device, InDoubt, Memory, NeedsReopen}
 use Rattle.lot_store.specs.declared.run.Ending.{Ending}
@@ -47,11 +43,9 @@ abbrev pub fault_line : ℕ → StoreFault → List ℕ
 fault_line number fault = line (decimal number ++ (codes " fault " ++ fault_name fault))
 
 -- the line that tells an answer: the reply, or the line of the fault
-abbrev pub answer_line : ℕ → Result Ack ApplyFault → List ℕ
-answer_line number (Ok ack.Accepted) = reply number Accepted
-answer_line number (Ok ack.Repeat) = reply number Repeated
-answer_line number (Err (apply.Refused refusal)) = reply number (Refused refusal)
-answer_line number (Err (apply.Failed fault)) = fault_line number fault
+abbrev pub answer_line : ℕ → Result Verdict StoreFault → List ℕ
+answer_line number (Ok verdict) = reply number verdict
+answer_line number (Err fault) = fault_line number fault
 
 -- a prefix of the line is written, or all of it without the flush
 abbrev pub AppendsSome : Option (List ℕ) → Option (List ℕ) → List ℕ → Type 0
@@ -76,17 +70,10 @@ abbrev pub StopsWith : ℕ → StoreFault → Option (List ℕ) → Option (List
 StopsWith number fault old new ending =
     ((ending ≡ Stopped fault) × Appends old new (fault_line number fault)) ⊎ ((ending ≡ Output) × AppendsSome old new (fault_line number fault))
 
--- what an answer is to a run: a verdict, or the fault at which it stops
-abbrev pub told : Result Ack ApplyFault → Result Verdict StoreFault
-told (Ok ack.Accepted) = Ok Accepted
-told (Ok ack.Repeat) = Ok Repeated
-told (Err (apply.Refused refusal)) = Ok (Refused refusal)
-told (Err (apply.Failed fault)) = Err fault
-
 -- how a run ends at a command with that answer: it stops at the fault, whose line is written, or the writer failed
-abbrev pub EndsAt : ℕ → Result Ack ApplyFault → Option (List ℕ) → Option (List ℕ) → Ending → Type 0
+abbrev pub EndsAt : ℕ → Result Verdict StoreFault → Option (List ℕ) → Option (List ℕ) → Ending → Type 0
 EndsAt number answer old new ending =
-    ((fault : StoreFault) × (answer ≡ Err (apply.Failed fault)) × (ending ≡ Stopped fault) × Appends old new (fault_line number fault))
+    ((fault : StoreFault) × (answer ≡ Err fault) × (ending ≡ Stopped fault) × Appends old new (fault_line number fault))
     ⊎ ((ending ≡ Output) × AppendsSome old new (answer_line number answer))
 
 -- A command of that number is applied, and its reply is written, or the run ends at it, and that is the condition of the book
@@ -94,12 +81,12 @@ EndsAt number answer old new ending =
 -- `KeptThen` of which is what is kept then.
 abbrev pub RepliesTo : (Kept KeptThen : List Entry → Type 0) → Key → Command → ℕ → State → State → Option (List ℕ) → Option (List ℕ) → Condition → Result Verdict Ending → Type 0
 RepliesTo Kept KeptThen key command number old new before written condition (Ok verdict) =
-    (answer : Result Ack ApplyFault) × AppliesWith Kept KeptThen key command old new answer × (told answer ≡ Ok verdict) × Appends before written (reply number verdict)
-    × IsByText key command old new answer
+    AppliesWith Kept KeptThen key command old new (Ok verdict) × Appends before written (reply number verdict)
+    × IsByText key command old new (Ok verdict)
 RepliesTo Kept KeptThen key command number old new before written condition (Err ending) =
-    (answer : Result Ack ApplyFault) × AppliesWith Kept KeptThen key command old new answer
+    (answer : Result Verdict StoreFault) × AppliesWith Kept KeptThen key command old new answer
     × FailsFor Kept key command old new answer × IsByText key command old new answer
-    × (answer ≢ Err (apply.Failed NeedsReopen))
+    × (answer ≢ Err NeedsReopen)
     × (condition ≡ condition_after answer) × EndsAt number answer before written ending
 
 -- ---- flushing
@@ -130,26 +117,26 @@ flush_outcome (Err error) = Err Output
 
 -- What is written behind the replies to the verdicts, the first of which has the number `from`. It is nothing, or the line of
 -- the fault. Where the writer failed, it is some of the line of the answer to the next command.
-abbrev pub WritesEnd : ℕ → List Verdict → Result Ack ApplyFault → Ending → Option (List ℕ) → Option (List ℕ) → Type 0
+abbrev pub WritesEnd : ℕ → List Verdict → Result Verdict StoreFault → Ending → Option (List ℕ) → Option (List ℕ) → Type 0
 WritesEnd from verdicts answer Complete old new = Appends old new (replies from verdicts)
 WritesEnd from verdicts answer (Stopped fault) old new = Appends old new (replies from verdicts ++ fault_line (length verdicts + from) fault)
 WritesEnd from verdicts answer Output old new =
     (prefix : List ℕ) × IsPrefixOf prefix (answer_line (length verdicts + from) answer) × Appends old new (replies from verdicts ++ prefix)
 
 -- the counts are those of the lines
-pub record Writes (from : ℕ) (verdicts : List Verdict) (answer : Result Ack ApplyFault) (end : RunEnd) (old new : Option (List ℕ)) : Type 0 where
+pub record Writes (from : ℕ) (verdicts : List Verdict) (answer : Result Verdict StoreFault) (end : RunEnd) (old new : Option (List ℕ)) : Type 0 where
   pub replied : end.replied ≡ length verdicts
   pub refused : end.refused ≡ count_refused verdicts
   pub lines : WritesEnd from verdicts answer end.ending old new
 
 -- a run ends at the command behind those that were replied to; before any only where the book needs reopening
-abbrev pub IsAtCommand : ℕ → ℕ → Result Ack ApplyFault → Type 0
-IsAtCommand commands replied answer = (replied < commands) ⊎ ((answer ≡ Err (apply.Failed NeedsReopen)) × (replied ≡ 0))
+abbrev pub IsAtCommand : ℕ → ℕ → Result Verdict StoreFault → Type 0
+IsAtCommand commands replied answer = (replied < commands) ⊎ ((answer ≡ Err NeedsReopen) × (replied ≡ 0))
 
 -- where a run of so many commands ends: behind the last of them, or at the one that has the answer
-abbrev pub EndsBehind : ℕ → ℕ → Result Ack ApplyFault → Ending → Type 0
+abbrev pub EndsBehind : ℕ → ℕ → Result Verdict StoreFault → Ending → Type 0
 EndsBehind commands replied answer Complete = replied ≡ commands
-EndsBehind commands replied answer (Stopped fault) = IsAtCommand commands replied (Err (apply.Failed fault))
+EndsBehind commands replied answer (Stopped fault) = IsAtCommand commands replied (Err fault)
 EndsBehind commands replied answer Output = IsAtCommand commands replied answer
 
 -- the database stands for that book, and has no room for the first of these commands on it
@@ -180,22 +167,20 @@ LeavesAtVerdict verdict verdicts book (next ∷ left) old new =
     (after : List Entry) × JudgesOn book next.0 next.1 verdict after × Stands new after
     × ((trees : Trees) → new.may_leave trees → LeavesJudged old.may_leave (verdicts ++ verdict ∷ []) after trees)
 
-abbrev pub LeavesAtAnswer : Result Ack ApplyFault → List Verdict → List Entry → List (Key × Command) → State → State → Type 0
-LeavesAtAnswer (Ok ack.Accepted) verdicts book left old new = LeavesAtVerdict Accepted verdicts book left old new
-LeavesAtAnswer (Ok ack.Repeat) verdicts book left old new = LeavesAtVerdict Repeated verdicts book left old new
-LeavesAtAnswer (Err (apply.Refused refusal)) verdicts book left old new = LeavesAtVerdict (Refused refusal) verdicts book left old new
-LeavesAtAnswer (Err (apply.Failed fault)) verdicts book left old new = LeavesAtFault fault verdicts book left old new
+abbrev pub LeavesAtAnswer : Result Verdict StoreFault → List Verdict → List Entry → List (Key × Command) → State → State → Type 0
+LeavesAtAnswer (Ok verdict) verdicts book left old new = LeavesAtVerdict verdict verdicts book left old new
+LeavesAtAnswer (Err fault) verdicts book left old new = LeavesAtFault fault verdicts book left old new
 
 -- What stands after a run that ended with these commands left, and what a crash may leave. The answer to the first of them
 -- matters where the writer failed.
-abbrev pub LeavesAfter : List Verdict → List Entry → List (Key × Command) → State → State → Result Ack ApplyFault → Ending → Type 0
+abbrev pub LeavesAfter : List Verdict → List Entry → List (Key × Command) → State → State → Result Verdict StoreFault → Ending → Type 0
 LeavesAfter verdicts book left old new answer Complete =
     (left ≡ []) × Stands new book × ((trees : Trees) → new.may_leave trees → LeavesJudged old.may_leave verdicts book trees)
 LeavesAfter verdicts book left old new answer (Stopped fault) = LeavesAtFault fault verdicts book left old new
 LeavesAfter verdicts book left old new answer Output = LeavesAtAnswer answer verdicts book left old new
 
 -- a run of commands on a book in a file; the answer is that to the command at which the writer failed
-pub record RunsSession (commands : List (Key × Command)) (from : ℕ) (old new : State) (before written : Option (List ℕ)) (answer : Result Ack ApplyFault) (end : RunEnd) : Type 0 where
+pub record RunsSession (commands : List (Key × Command)) (from : ℕ) (old new : State) (before written : Option (List ℕ)) (answer : Result Verdict StoreFault) (end : RunEnd) : Type 0 where
   pub verdicts : List Verdict
   pub writes : Writes from verdicts answer end before written
   pub place : EndsBehind (length commands) (length verdicts) answer end.ending
@@ -220,14 +205,14 @@ pub record StopsAtOnce (from : ℕ) (end : RunEnd) (old new : Option (List ℕ))
   pub line : StopsWith from NeedsReopen old new end.ending
 
 -- the condition of a book after a run that ended so; where the writer failed, it is that after the answer
-abbrev pub IsConditionAfter : Result Ack ApplyFault → Ending → Condition → Type 0
+abbrev pub IsConditionAfter : Result Verdict StoreFault → Ending → Condition → Type 0
 IsConditionAfter answer Complete condition = condition ≡ Ready
-IsConditionAfter answer (Stopped fault) condition = condition ≡ condition_after (Err (apply.Failed fault))
+IsConditionAfter answer (Stopped fault) condition = condition ≡ condition_after (Err fault)
 IsConditionAfter answer Output condition = condition ≡ condition_after answer
 
 -- A run of commands on a book in the first condition, which has the second one then. A book that was ready never answers that
 -- it needs reopening.
 abbrev pub RunsBook : List (Key × Command) → ℕ → State → State → Option (List ℕ) → Option (List ℕ) → Condition → Condition → RunEnd → Type 0
 RunsBook commands from old new before written was condition end =
-    (answer : Result Ack ApplyFault) × RunsSession commands from old new before written answer end
-    × (was ≡ Ready → answer ≢ Err (apply.Failed NeedsReopen)) × IsConditionAfter answer end.ending condition
+    (answer : Result Verdict StoreFault) × RunsSession commands from old new before written answer end
+    × (was ≡ Ready → answer ≢ Err NeedsReopen) × IsConditionAfter answer end.ending condition

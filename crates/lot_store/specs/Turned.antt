@@ -26,10 +26,7 @@ use Rattle.lot_stored.specs.StandFor.{Stands}
 use Rattle.lot_table.specs.Statement.{DiskFailed}
 use Rattle.lot_store.specs.Apply.{StandsWith}
 use Rattle.lot_store.specs.Run.{RunsBook}
-use Rattle.lot_store.specs.declared.book.Ack.{Ack}
 use Rattle.lot_store.specs.declared.book.Condition.{Condition}
-use Rattle.lot_store.specs.declared.fault.ApplyFault.{ApplyFault}
-use Rattle.lot_store.specs.declared.fault.ApplyFault.TheVariants.{Failed, Refused}
 use Rattle.lot_store.specs.declared.fault.StoreFault.{StoreFault}
 use Rattle.lot_store.specs.declared.fault.StoreFault.TheVariants.{Damaged, Device, InDoubt, Memory, NeedsReopen}
 use Rattle.lot_store.specs.declared.run.RunEnd.{RunEnd}
@@ -120,14 +117,13 @@ AreTurnedOn rounding before (asked ∷ more) (turned ∷ others) (verdict ∷ ve
 AreTurnedOn rounding before _ _ _ after = ⊥
 
 -- whether an answer tells that the command was judged: a verdict does, and a commit in doubt
-abbrev pub is_judged : Result Ack ApplyFault → Bool
-is_judged (Ok ack) = true
-is_judged (Err (Refused refusal)) = true
-is_judged (Err (Failed InDoubt)) = true
-is_judged (Err (Failed Device)) = false
-is_judged (Err (Failed NeedsReopen)) = false
-is_judged (Err (Failed Damaged)) = false
-is_judged (Err (Failed Memory)) = false
+abbrev pub is_judged : Result Verdict StoreFault → Bool
+is_judged (Ok judged) = true
+is_judged (Err InDoubt) = true
+is_judged (Err Device) = false
+is_judged (Err NeedsReopen) = false
+is_judged (Err Damaged) = false
+is_judged (Err Memory) = false
 
 -- The command at which a run ends is judged in the place of what was handed in. Where nothing tells that it was judged, it may
 -- also be what was handed in itself.
@@ -145,7 +141,7 @@ AreLeft judged rounding book _ _ = ⊥
 -- A run judges these commands in the place of those that were handed in. So many were replied to, with their verdicts, and the
 -- answer is that to the next one.
 pub record AreTurned (rounding : Option Rounding) (entries : List Entry) (asked : List (Key × Asked)) (turned : List (Key × Command))
-    (replied : ℕ) (answer : Result Ack ApplyFault) : Type 0 where
+    (replied : ℕ) (answer : Result Verdict StoreFault) : Type 0 where
   pub verdicts : List Verdict
   pub counted : replied ≡ length verdicts
   pub first : List (Key × Asked)

@@ -1,13 +1,13 @@
 ghost use Rattle.std.specs.Prelude.{◌≡◌, ◌≢◌, ◌↔◌, false, Err, IsTrue, None, OnErr, option_copied};
 ghost use Rattle.lot_load.specs.Kept.{IsOf};
-ghost use Rattle.lot_store.specs.Apply.{Applies, AppliesWith, RefusedByDevice, RefusedByDeviceWith, condition_after, ready_of, verdict_of};
+ghost use Rattle.lot_store.specs.Apply.{Applies, AppliesWith, RefusedByDevice, RefusedByDeviceWith, condition_after, ready_of};
+ghost use Rattle.std.specs.Result.{result_ok};
 ghost use Rattle.lot_store.specs.ByText.{IsByText};
 ghost use Rattle.lot_store.specs.Damage.{MeetsDamage};
 ghost use Rattle.lot_store.specs.Extent.{Measures};
 ghost use Rattle.lot_store.specs.Step.{LeavesTables, condition_from};
 ghost use Rattle.lot_store.specs.Turned.{TurnsTo};
 ghost use Rattle.lot_walk.specs.Step.{Steps, StepsOverRows};
-ghost use Rattle.lot_store.specs.declared.fault.ApplyFault.TheVariants.{Failed};
 ghost use Rattle.lot_table.specs.Statement.{DiskFailed};
 ghost use Rattle.sqlite.specs.Held.{state};
 ghost use Rattle.sqlite.specs.State.{HasCleanDisk};
@@ -15,10 +15,10 @@ ghost use Rattle.sqlite.specs.Tree.{Trees};
 
 use crate::commit::commit;
 use crate::extent::{Extent, measure};
-use crate::fault::{ApplyFault, StoreFault};
+use crate::fault::StoreFault;
 use crate::turn::{Turn, turn_of};
 use lot_command::{Command, Key, is_sayable};
-use lot_ledger::{Edition, Outcome, Stop, decide};
+use lot_ledger::{Edition, Outcome, Stop, Verdict, decide};
 use lot_load::{Kept, look_on};
 use lot_rounding::{Asked, Rounding};
 use lot_table::Fault;
@@ -27,15 +27,6 @@ use lot_write::laws::what_is_written_stands_for_the_book;
 use lot_write::writes;
 use sqlite::{Alter, Connection};
 use std::alloc::Global;
-
-/// The answer to a command that stands in the book, on disk.
-#[derive(Clone, Copy, Debug, PartialEq, Eq)]
-pub enum Ack {
-    /// It is an entry now.
-    Accepted,
-    /// It was an entry before, under its key.
-    Repeat,
-}
 
 /// Whether a book can be used.
 #[derive(Clone, Copy)]
@@ -64,7 +55,7 @@ impl<S: Alter> Book<S> {
     /// Where the text under the key is the canonical text of no command, the call fails: with `Damaged`, unless memory or the
     /// disk fails before. Whatever the tables stand for, a verdict is by the text that they have under the key. After
     /// `Accepted` the canonical text of the command stands there.
-    pub fn apply(&mut self, key: &Key, command: &Command) -> Result<Ack, ApplyFault>
+    pub fn apply(&mut self, key: &Key, command: &Command) -> Result<Verdict, StoreFault>
         ensures applies { Applies key.now command.now (state S.Store self.old.conn)
             (state S.Store self.new.conn) result }
         // With the connection open a crash leaves the last commit, and nothing else.
@@ -72,13 +63,13 @@ impl<S: Alter> Book<S> {
             → (state S.Store self.new.conn).may_leave trees
             → trees ≡ (state S.Store self.new.conn).committed.trees }
         ensures device { HasCleanDisk (state S.Store self.new.conn)
-            → result ≡ Err (Failed StoreFault.Device)
+            → result ≡ Err StoreFault.Device
             → RefusedByDevice key.now command.now (state S.Store self.old.conn)
             (state S.Store self.new.conn) }
         ensures in_doubt { HasCleanDisk (state S.Store self.new.conn)
-            → result ≡ Err (Failed StoreFault.InDoubt)
+            → result ≡ Err StoreFault.InDoubt
             → DiskFailed (state S.Store self.old.conn) (state S.Store self.new.conn) }
-        ensures reopen { (result ≡ Err (Failed StoreFault.NeedsReopen))
+        ensures reopen { (result ≡ Err StoreFault.NeedsReopen)
             ↔ (self.old.condition ≡ Condition.NeedsReopen) }
         ensures condition { self.new.condition ≡ condition_after result }
         ensures damage { MeetsDamage key.now
@@ -96,22 +87,22 @@ impl<S: Alter> Book<S> {
         kept: &mut Option<Kept>,
         key: &Key,
         command: &Command,
-    ) -> Result<Ack, ApplyFault>
+    ) -> Result<Verdict, StoreFault>
         requires { self.old.condition ≡ Condition.Ready }
         ensures applies { AppliesWith (IsOf kept.old) (IsOf kept.new) key.now command.now
             (state S.Store self.old.conn) (state S.Store self.new.conn) result }
-        ensures forgets { verdict_of result ≡ None → kept.new ≡ None }
+        ensures forgets { result_ok result ≡ None → kept.new ≡ None }
         ensures safe { IsTrue (state S.Store self.new.conn).is_open → (trees : Trees)
             → (state S.Store self.new.conn).may_leave trees
             → trees ≡ (state S.Store self.new.conn).committed.trees }
         ensures device { HasCleanDisk (state S.Store self.new.conn)
-            → result ≡ Err (Failed StoreFault.Device)
+            → result ≡ Err StoreFault.Device
             → RefusedByDeviceWith (IsOf kept.old) key.now command.now (state S.Store self.old.conn)
             (state S.Store self.new.conn) }
         ensures in_doubt { HasCleanDisk (state S.Store self.new.conn)
-            → result ≡ Err (Failed StoreFault.InDoubt)
+            → result ≡ Err StoreFault.InDoubt
             → DiskFailed (state S.Store self.old.conn) (state S.Store self.new.conn) }
-        ensures usable { result ≢ Err (Failed StoreFault.NeedsReopen) }
+        ensures usable { result ≢ Err StoreFault.NeedsReopen }
         ensures condition { self.new.condition ≡ condition_after result }
         ensures damage { MeetsDamage key.now
             (state S.Store self.old.conn) (state S.Store self.new.conn) result }
@@ -257,19 +248,19 @@ fn apply_to<S: Alter>(
     kept: &mut Option<Kept>,
     key: &Key,
     command: &Command,
-) -> Result<Ack, ApplyFault>
+) -> Result<Verdict, StoreFault>
     requires outside { HasCleanDisk (state S.Store conn.old) → conn.old.in_transaction ≡ false }
     requires unlimited { conn.old.step_limit ≡ None }
     ensures outside { HasCleanDisk (state S.Store conn.new) → conn.new.in_transaction ≡ false }
     ensures applies { AppliesWith (IsOf kept.old) (IsOf kept.new) key.now command.now
         (state S.Store conn.old) (state S.Store conn.new) result }
-    ensures forgets { verdict_of result ≡ None → kept.new ≡ None }
-    ensures device { HasCleanDisk (state S.Store conn.new) → result ≡ Err (Failed StoreFault.Device)
+    ensures forgets { result_ok result ≡ None → kept.new ≡ None }
+    ensures device { HasCleanDisk (state S.Store conn.new) → result ≡ Err StoreFault.Device
         → RefusedByDeviceWith (IsOf kept.old) key.now command.now (state S.Store conn.old)
         (state S.Store conn.new) }
-    ensures in_doubt { HasCleanDisk (state S.Store conn.new) → result ≡ Err
-        (Failed StoreFault.InDoubt) → DiskFailed (state S.Store conn.old) (state S.Store conn.new) }
-    ensures usable { result ≢ Err (Failed StoreFault.NeedsReopen) }
+    ensures in_doubt { HasCleanDisk (state S.Store conn.new) → result
+        ≡ Err StoreFault.InDoubt → DiskFailed (state S.Store conn.old) (state S.Store conn.new) }
+    ensures usable { result ≢ Err StoreFault.NeedsReopen }
     ensures damage { MeetsDamage key.now
         (state S.Store conn.old) (state S.Store conn.new) result }
     ensures text { IsByText key.now command.now
@@ -285,28 +276,28 @@ fn apply_to<S: Alter>(
             let writes = writes(alloc, looked.view(), key, command, &change)?;
             commit(conn, &writes)?;
             *kept = looked.record(command, &change).ok();
-            Ok(Ack::Accepted)
+            Ok(Verdict::Accepted)
         }
         Ok(Outcome::Repeat) => {
             *kept = Some(looked);
-            Ok(Ack::Repeat)
+            Ok(Verdict::Repeated)
         }
         Err(Stop::Refused(refusal)) => {
             *kept = Some(looked);
-            Err(ApplyFault::Refused(refusal))
+            Ok(Verdict::Refused(refusal))
         }
-        Err(Stop::Memory) => Err(ApplyFault::Failed(StoreFault::Memory)),
+        Err(Stop::Memory) => Err(StoreFault::Memory),
     }
 }
 
 /// Returns the condition of a book that could be used, after applying a command.
-fn condition_after(applied: &Result<Ack, ApplyFault>) -> Condition
+fn condition_after(applied: &Result<Verdict, StoreFault>) -> Condition
     ensures { result ≡ condition_after applied.now }
 {
     match applied {
-        Err(
-            ApplyFault::Failed(StoreFault::Device | StoreFault::InDoubt | StoreFault::NeedsReopen),
-        ) => Condition::NeedsReopen,
+        Err(StoreFault::Device | StoreFault::InDoubt | StoreFault::NeedsReopen) => {
+            Condition::NeedsReopen
+        }
         _ => Condition::Ready,
     }
 }

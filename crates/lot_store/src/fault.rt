@@ -1,4 +1,3 @@
-use lot_ledger::Refusal;
 use lot_table::{Fault, MakeFault};
 use sqlite::{Alter, Connection};
 use std::alloc::AllocError;
@@ -54,40 +53,6 @@ impl From<Fault> for StoreFault {
             Fault::Damaged => StoreFault::Damaged,
             Fault::Memory => StoreFault::Memory,
         }
-    }
-}
-
-/// Why a command isn't acknowledged.
-#[derive(Debug, PartialEq, Eq, Drop, Error)]
-pub enum ApplyFault {
-    /// The rules refuse it; nothing changed.
-    #[error("{0}")]
-    Refused(Refusal),
-    /// The book stops at it.
-    #[error("{0}")]
-    Failed(StoreFault),
-}
-
-impl From<StoreFault> for ApplyFault {
-    ghost use Rattle.std.specs.Prelude.{◌≡◌};
-    ghost use Rattle.lot_store.specs.declared.fault.ApplyFault.TheVariants.{Failed};
-
-    ghost from_gives = { λ fault e. e ≡ Failed fault };
-
-    fn from(fault: StoreFault) -> ApplyFault {
-        ApplyFault::Failed(fault)
-    }
-}
-
-impl From<Fault> for ApplyFault {
-    ghost use Rattle.std.specs.Prelude.{◌≡◌};
-    ghost use Rattle.lot_store.specs.Apply.{store_fault_of};
-    ghost use Rattle.lot_store.specs.declared.fault.ApplyFault.TheVariants.{Failed};
-
-    ghost from_gives = { λ fault e. e ≡ Failed (store_fault_of fault) };
-
-    fn from(fault: Fault) -> ApplyFault {
-        ApplyFault::Failed(StoreFault::from(fault))
     }
 }
 

@@ -23,10 +23,10 @@ mod turn;
 mod walk;
 
 pub use adoption::adopt;
-pub use book::{Ack, Book};
+pub use book::Book;
 pub use creation::{create, edition_row, is_empty, make_tables};
 pub use extent::Extent;
-pub use fault::{AdoptFault, ApplyFault, CreateFault, HandedBack, StoreFault};
+pub use fault::{AdoptFault, CreateFault, HandedBack, StoreFault};
 pub use lot_walk::{PairPrice, laws};
 pub use run::{Ending, RunEnd};
 pub use turn::{Turn, turn_with};

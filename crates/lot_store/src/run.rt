@@ -2,14 +2,14 @@ ghost use Rattle.std.specs.Prelude.{◌≡◌, ◌≢◌, ◌+◌, ◌<◌, ◌^
 ghost use Rattle.lot_load.specs.Kept.{IsOf};
 ghost use Rattle.lot_report.specs.Printed.{reply};
 ghost use Rattle.lot_io.specs.Writes.{HasFailed, IsFlushed, writes_between};
-ghost use Rattle.lot_store.specs.Run.{FlushesLine, IsWrittenOut, IsWrittenOutAs, RepliesTo, StopsAtOnce, StopsWith, WritesOut, count_refused, flush_outcome, told};
+ghost use Rattle.lot_store.specs.Run.{FlushesLine, IsWrittenOut, IsWrittenOutAs, RepliesTo, StopsAtOnce, StopsWith, WritesOut, count_refused, flush_outcome};
 ghost use Rattle.lot_store.specs.Turned.{RunsTurned};
 ghost use Rattle.lot_store.specs.declared.run.Ending.TheVariants.{Stopped};
 ghost use Rattle.sqlite.specs.Held.{state};
 ghost use Rattle.sqlite.specs.Tree.{Trees};
 
-use crate::book::{Ack, Book, Condition};
-use crate::fault::{ApplyFault, StoreFault};
+use crate::book::{Book, Condition};
+use crate::fault::StoreFault;
 use crate::turn::untaken_on;
 use itoa::Buffer;
 use lot_command::{Command, Key};
@@ -156,25 +156,13 @@ impl<S: Alter> Book<S> {
         ensures output { IsWrittenOutAs result
             (writes_between (W.calls writer.old) (W.calls writer.new)) }
     {
-        match told(self.apply_with(kept, key, command)) {
+        match self.apply_with(kept, key, command) {
             Ok(verdict) => {
                 write_reply(writer, number, &verdict)?;
                 Ok(verdict)
             }
             Err(fault) => Err(stop(writer, number, fault)),
         }
-    }
-}
-
-/// Returns the verdict that an answer tells, or the fault at which a run stops.
-fn told(answer: Result<Ack, ApplyFault>) -> Result<Verdict, StoreFault>
-    ensures { result ≡ told answer }
-{
-    match answer {
-        Ok(Ack::Accepted) => Ok(Verdict::Accepted),
-        Ok(Ack::Repeat) => Ok(Verdict::Repeated),
-        Err(ApplyFault::Refused(refusal)) => Ok(Verdict::Refused(refusal)),
-        Err(ApplyFault::Failed(fault)) => Err(fault),
     }
 }
 

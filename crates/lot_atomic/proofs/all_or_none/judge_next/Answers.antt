@@ -13,7 +13,6 @@ use Rattle.lot_write.specs.Writes.{writes_of}
 use Rattle.lot_atomic.proofs.AllOrNoneLemmas.{accepts_inside, refuses_inside, repeats_inside, unmade_inside, unwritten_inside}
 use Rattle.lot_store.proofs.ApplyLemmas.{LooksOn, refused_number}
 use Rattle.lot_store.specs.Apply.{store_fault_of}
-use Rattle.lot_store.specs.declared.fault.ApplyFault.TheVariants as apply
 use Rattle.lot_store.proofs.ByTextLemmas.{has_along, turns_accepted}
 use Rattle.lot_store.proofs.DamageLemmas.{looked_at}
 use Rattle.lot_store.proofs.KeptLemmas.{accepted_on, comes_on, kept_then, stops_on, writes_on}
@@ -115,7 +114,7 @@ returns-in_err-looked-clause-damage g c clean tables has damaged =
     let fault = err_from_is_err_and c.from_residual.result c.from_residual.ensures.1 in
     rw (fault.1, fault.2)
     (looked_at c.in_err-looked.field-0.0 (state g.S.Store c.args.tx.now.conn.now) (state g.S.Store c.look_on.new.conn.conn.now)
-    (Err (apply.Failed (store_fault_of c.in_err-looked.field-0.0))) refl (λ is. c.in_err-looked.ensures.looks.device clean (ap Err is)))
+    (Err (store_fault_of c.in_err-looked.field-0.0)) refl (λ is. c.in_err-looked.ensures.looks.device clean (ap Err is)))
 
 pub returns-in_err-writes-in-Ok-Accept-clause-damage : goal.returns-in_err-writes-in-Ok-Accept-clause-damage
 returns-in_err-writes-in-Ok-Accept-clause-damage g c clean tables has damaged = let none = c.in_ok-looked.ensures.damage clean tables has damaged in absurd cc
