@@ -6,4 +6,3 @@ pub mod FaultLemmas
 pub mod LawAnswersReports
 pub mod LawAnswers
 pub mod AnswerLemmas
-pub mod ReportLemmas

@@ -4,7 +4,6 @@ use Rattle.std.specs.Prelude.{◌≡◌, ◌⊎◌, Option, Result, Ok, Err, ℕ
 use Rattle.lot_stream.specs.declared.fault.Fault.{Fault}
 use Rattle.lot_stream.specs.declared.status.Status.{Status}
 use Rattle.lot_report.specs.declared.fault.ReportFault.{ReportFault}
-use Rattle.lot_report.specs.declared.fault.RowFault.{RowFault}
 use Rattle.lot_report.specs.declared.line.PrintFault.{PrintFault}
 use Rattle.lot_command.specs.declared.command.Command.{Command}
 use Rattle.lot_book.specs.declared.change.Change.{Change}
@@ -157,10 +156,3 @@ Concludes old new (Err (Fault.Text number fault)) concluded = ReportsFault (Faul
 Concludes old new (Err Fault.Range) concluded = ReportsFault Fault.Range old new concluded
 Concludes old new (Err Fault.Memory) concluded = ReportsFault Fault.Memory old new concluded
 Concludes old new (Err (Fault.MemoryAt number)) concluded = ReportsFault (Fault.MemoryAt number) old new concluded
-
--- ---- Reports.
-
--- what comes of a row, or of the end, of a report that no fault has ended before
-abbrev pub in_row : Result (Unit {0}) ReportFault → Result (Unit {0}) RowFault
-in_row (Ok done) = Ok done
-in_row (Err fault) = Err (RowFault.Report fault)

@@ -1,6 +1,4 @@
 //! The whole check: a text is read, its commands are judged on an empty book, and the replies and the report are written.
-//!
-//! - `report`: what the book holds, as it is written.
 
 ghost use Rattle.std.specs.Prelude.{◌≡◌, ◌⊎◌, ◌≤◌, ℕ, List, length, IfOk, IfSome, IsErrOf, OnErr, OnOk};
 ghost use Rattle.std.specs.Io.KnownBytes.{Appends};
@@ -12,16 +10,13 @@ ghost use Rattle.lot_check.specs.Way.{Answers, Concludes, JudgesKnown, Reaches, 
 ghost use Rattle.lot_io.specs.Writes.{HasFailed, NoneFailed, writes_between};
 ghost use Rattle.lot_view.specs.View.{known_with_openings};
 
-mod report;
-
 use lot_command::Command;
 use lot_completion::{Watch, untaken};
 use lot_io::{CountedRead, CountedWrite};
 use lot_ledger::{Edition, Outcome, Stop, Verdict, View, decide};
 use lot_read::read;
-use lot_report::{PrintFault, print_reply};
+use lot_report::{PrintFault, print_holdings, print_reply};
 use lot_stream::{Fault, Status, finish, print_fault, slurp};
-use report::print_holdings;
 use std::alloc::{AllocError, Global};
 
 /// Judges a ledger text on an empty book, by edition 2. Writes a reply to each of its commands, then what the book holds.

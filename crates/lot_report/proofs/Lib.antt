@@ -7,4 +7,5 @@ pub mod FedLemmas
 pub mod GainLemmas
 pub mod GainLaws
 pub mod HoldingLemmas
+pub mod WholeLemmas
 pub mod ReplyLemmas

@@ -1,7 +1,7 @@
 ghost use Rattle.std.specs.Prelude.{◌≡◌, ◌↔◌, List, [], ◌∷◌, ℕ, ℤ, ◌≢◌, Option, Some, IfErr, IsErr, IsErrOf, IsFalse, IsTrue, OnOk};
 ghost use Rattle.std.specs.Io.KnownBytes.{Appends};
 ghost use Rattle.lot_report.specs.declared.holdings.ValuedHolding.{ValuedHolding as Row};
-ghost use Rattle.lot_report.specs.Holdings.{CountsBoth, CountsHolding, EndsHoldings, GrowsByHolding, HasTaken, IsFed, TakesHolding, cost_of, end_lines, holding_row, is_spent, rows_text, value_at};
+ghost use Rattle.lot_report.specs.Holdings.{CountsBoth, CountsHolding, EndsHoldings, GrowsByHolding, HasTaken, IsFed, TakesHolding, cost_of, WritesReport, end_lines, holding_row, is_spent, rows_text, unvalued, value_at};
 ghost use Rattle.lot_io.specs.Writes.{HasFailed, NoneFailed};
 ghost use Rattle.lot_report.specs.Printed.{plain_row};
 ghost use Rattle.lot_report.specs.Report.{AreSums};
@@ -96,6 +96,33 @@ impl Holdings {
             Err(fault) => Err(RowFault::Report(ReportFault::from(fault))),
         }
     }
+}
+
+/// Writes the report of what is held, without values: a line for each row, in the order in which they are given, then what the
+/// lots cost in each currency.
+///
+/// Returns `Range` at the first row that takes a total out of the range of weights: the rows before it are written, and no
+/// total. Returns `Memory` where there is no memory for a line or a total: whole lines of the report are written. Returns
+/// `Write` where the writer fails: a prefix of the report is written, but not all of it.
+pub fn print_holdings<W: CountedWrite>(
+    alloc: Global,
+    rows: Vec<Holding>,
+    writer: &mut W,
+) -> Result<(), ReportFault>
+    ensures report { WritesReport (unvalued rows.items) (W.contents writer.old)
+        (W.contents writer.new) result }
+    ensures cause { IsErrOf result ReportFault.Write → HasFailed (W.calls writer.new) }
+    ensures none_failed { OnOk result (NoneFailed (W.calls writer.old) (W.calls writer.new)) }
+{
+    let mut progress = Progress::new(alloc);
+    for holding in rows {
+        let row = ValuedHolding {
+            holding,
+            valuation: Valuation::Unasked,
+        };
+        progress.row(&row, writer)?;
+    }
+    Ok(progress.end(writer)?)
 }
 
 /// What the rows so far come to.

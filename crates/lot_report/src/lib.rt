@@ -1,7 +1,7 @@
 //! The lines that are printed (docs/FORMATS.md, Printed texts).
 //!
 //! - `reply`: the reply to a command.
-//! - `holdings`: what a book holds, and what its lots cost and are worth, fed row by row.
+//! - `holdings`: what a book holds, and what its lots cost and are worth, fed row by row or given at once.
 //! - `gains`: what the sales of a book gained, fed one by one.
 //! - `journal`: the entries of a book, fed one by one.
 //! - `fault`: why a report ends before its end.
@@ -23,7 +23,7 @@ mod totals;
 
 pub use fault::{ReportFault, RowFault};
 pub use gains::Gains;
-pub use holdings::{Holdings, ValuedHolding};
+pub use holdings::{Holdings, ValuedHolding, print_holdings};
 pub use journal::{Entry, Journal, JournalFault};
 pub use line::{PrintFault, print_line, print_texts};
 pub use lot::Valuation;
