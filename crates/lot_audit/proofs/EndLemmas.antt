@@ -41,7 +41,7 @@ use Rattle.lot_audit.specs.Legs.{rows_of}
 use Rattle.lot_audit.specs.Pass.{HasJudgedAll, HasLegs, HaveLegs}
 use Rattle.lot_audit.specs.Told.{IsOfEntries, RowsTold, TellsAccount, TellsAllowed, TellsCommodity, TellsHead, TellsLot, TellsOpening, TellsPlain, TellsPrice}
 use Rattle.lot_audit.specs.Judge.{Agree, AreOfThisEdition}
-use Rattle.lot_audit.specs.declared.pass.Known.{Known}
+use Rattle.lot_audit.specs.declared.pass.Replayed.{Replayed}
 use Rattle.lot_audit.proofs.GoodLemmas.{one_account, one_allowed, one_commodity, one_head, one_leg, one_lot, one_opening, one_plain, one_price}
 use Rattle.lot_audit.proofs.NextLemmas.{is_whole}
 use Rattle.lot_audit.proofs.PostingLemmas.{of_posting, own_postings}
@@ -55,7 +55,7 @@ use Rattle.lot_audit.proofs.ToldLemmas.{accounts_agree, allowed_agree, commoditi
 abbrev at : {X : Type 0} → BookTable Tables X → List Row → Slot
 at t rows = record { tree = t.table.tree; width = t.width; rows = rows }
 
-module _ (known : Known) (tables : Tables) (agree : Agree known tables) where
+module _ (known : Replayed) (tables : Tables) (agree : Agree known tables) where
   -- the rows that were read, all of which a book can have
   abbrev pub read_tables : Tables
   read_tables = record tables {
@@ -153,7 +153,7 @@ module _ (place : ℕ) (tables : Tables) (good : All IsLegRow tables.leg) where
 
 -- ---- what is judged agrees
 
-module _ (known : Known) (tables : Tables) (judged : HasJudgedAll known tables) where
+module _ (known : Replayed) (tables : Tables) (judged : HasJudgedAll known tables) where
   abbrev entries : List Entry
   entries = judged.0
 

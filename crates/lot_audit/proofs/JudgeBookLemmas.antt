@@ -22,7 +22,7 @@ use Rattle.lot_view.specs.View.{known as facts_known}
 use Rattle.lot_audit.specs.Checks.{Checks, ChecksWhere, always}
 use Rattle.lot_audit.specs.Pass.{HasJudgedAll, SaysPlace}
 use Rattle.lot_audit.specs.Judge.{Agree, AreOfThisEdition, StandByColumns}
-use Rattle.lot_audit.specs.declared.pass.Known.{Known}
+use Rattle.lot_audit.specs.declared.pass.Replayed.{Replayed}
 use Rattle.lot_audit.proofs.EndLemmas.{agrees_where_stand, has_columns, placed_where_stand, read_tables, same_columns, stand_where_agree}
 use Rattle.lot_audit.proofs.NextLemmas.{same_place}
 use Rattle.lot_audit.proofs.SeenLemmas.{Seen, Tells, fails_next, passed_on, refuted, seen_next, seen_none, told_no, told_yes}
@@ -60,7 +60,7 @@ abbrev pub Placed : ℕ → Tables → Type 0
 Placed place tables = AreOfThisEdition tables × SaysPlace place tables
 
 -- and all entries are judged
-abbrev pub AllJudged : ℕ → Known → Tables → Type 0
+abbrev pub AllJudged : ℕ → Replayed → Tables → Type 0
 AllJudged place known tables = Placed place tables × HasJudgedAll known tables
 
 module _ (old : State) where
@@ -76,7 +76,7 @@ module _ (old : State) where
       (fails_next Where Says always SaysPlace Where old old one fault (seen_none Where old) c (λ tables has edition. tt))
 
   module _ (one two : State) (place : ℕ) (placed : Seen Where (Placed place) old one) where
-    pub seen_judged : (known : Known) → ChecksWhere (SaysPlace place) HasJudgedAll one two (Ok known)
+    pub seen_judged : (known : Replayed) → ChecksWhere (SaysPlace place) HasJudgedAll one two (Ok known)
         → Seen Where (AllJudged place known) old two
     seen_judged known c =
         seen_next Where (SaysPlace place) HasJudgedAll (Placed place) (AllJudged place known) old one two known placed c
@@ -89,10 +89,10 @@ module _ (old : State) where
         (fails_next Where Says (SaysPlace place) HasJudgedAll (Placed place) old one two fault placed c (λ tables has was. was.1))
 
   -- the place that is read is the one by which the entries are judged
-  one_place : (place : ℕ) (known : Known) (tables : Tables) → AllJudged place known tables → place ≡ known.replay.place
+  one_place : (place : ℕ) (known : Replayed) (tables : Tables) → AllJudged place known tables → place ≡ known.replay.place
   one_place place known tables was = same_place place known.replay.place (sym was.0.1 ∙ was.1.2.migration)
 
-  module _ (two : State) (place : ℕ) (known : Known) (seen : Seen Where (AllJudged place known) old two) where
+  module _ (two : State) (place : ℕ) (known : Replayed) (seen : Seen Where (AllJudged place known) old two) where
     abbrev count : ℕ
     count = (facts_known known.replay.view).entries
 

@@ -22,7 +22,7 @@ use Rattle.lot_walk.proofs.OneSalesLemmas.{one_sales_of_book}
 use Rattle.lot_walk.proofs.SaleRowLemmas.{one_sale_row}
 use Rattle.lot_audit.specs.Checks.{ChecksWhere}
 use Rattle.lot_audit.specs.Pass.{HasJudged, HasJudgedAll, HasRead, HasReadAll, SaysPlace}
-use Rattle.lot_audit.specs.declared.pass.Known.{Known}
+use Rattle.lot_audit.specs.declared.pass.Replayed.{Replayed}
 use Rattle.lot_audit.specs.declared.pass.Pass.{Pass}
 use Rattle.lot_audit.proofs.NextLemmas.{is_whole}
 use Rattle.lot_audit.proofs.SeenLemmas.{Seen, passed_on, refuted, seen_done, seen_none, step_fails, step_gives}
@@ -60,7 +60,7 @@ module _ (place : ℕ) (pass : Pass) (after : Place) (old mid new : State) (seen
         was.4,
       ))
 
-  pub entry_unread : (fault : Fault) (result : Result Known Fault) → IsErrAnd result (λ e. e ≡ fault) → Reads (Err fault)
+  pub entry_unread : (fault : Fault) (result : Result Replayed Fault) → IsErrAnd result (λ e. e ≡ fault) → Reads (Err fault)
       → ChecksWhere (SaysPlace place) HasJudgedAll old new result
   entry_unread fault result is reads =
       passed_on (SaysPlace place) HasJudgedAll old new fault result is
@@ -117,7 +117,7 @@ module _ (pass : Pass) (after : Place) (old new : State) where
       (was, it.0, it.1)))
       (λ tables has left. no_sale_left row tables left)
 
-  pub end_unread : (fault : Fault) (result : Result Known Fault) → IsErrAnd result (λ e. e ≡ fault) → ReadsSale (Err fault)
+  pub end_unread : (fault : Fault) (result : Result Replayed Fault) → IsErrAnd result (λ e. e ≡ fault) → ReadsSale (Err fault)
       → ChecksWhere Where HasJudgedAll old new result
   end_unread fault result is reads =
       passed_on Where HasJudgedAll old new fault result is

@@ -4,11 +4,11 @@ use Rattle.lot_rows.specs.Tables.{Tables, layout}
 use Rattle.lot_stored.specs.Rows.{this_edition}
 use Rattle.lot_stored.specs.StandFor.{AreOfBook}
 use Rattle.lot_audit.specs.Told.{AmountsTold, HeldHasRows, LegsWithin, NamesTold}
-use Rattle.lot_audit.specs.declared.pass.Known.{Known}
+use Rattle.lot_audit.specs.declared.pass.Replayed.{Replayed}
 use Rattle.lot_view.specs.View.{known as facts_known}
 
 -- The tables agree with what is known of their entries.
-pub record Agree (known : Known) (tables : Tables) : Type 0 where
+pub record Agree (known : Replayed) (tables : Tables) : Type 0 where
   pub names : NamesTold known.replay.view tables
   pub amounts : AmountsTold known.replay.view known.rates tables
   pub held : HeldHasRows known.replay.view tables

@@ -22,7 +22,7 @@ use Rattle.lot_audit.specs.Entries.{AllHave}
 use Rattle.lot_audit.specs.Legs.{AreAlike}
 use Rattle.lot_audit.specs.Rates.{KeepsRates}
 use Rattle.lot_audit.specs.Replay.{Replays}
-use Rattle.lot_audit.specs.declared.pass.Known.{Known}
+use Rattle.lot_audit.specs.declared.pass.Replayed.{Replayed}
 use Rattle.lot_audit.specs.declared.pass.Pass.{Pass}
 
 -- ---- legs
@@ -61,7 +61,7 @@ HasOthersNext before rows tables = (given rest : List SaleRow) → IsBehind sale
 
 -- These entries are judged, a book with the place of migration that the tables say, and these are its sales. The tables have
 -- the rows of their legs and of their commands.
-pub record Judged (known : Known) (tables : Tables) (entries : List Entry) (sales : List (ℕ × (ℕ × SaleParts))) : Type 0 where
+pub record Judged (known : Replayed) (tables : Tables) (entries : List Entry) (sales : List (ℕ × (ℕ × SaleParts))) : Type 0 where
   pub migration : tables.migration ≡ migration_row known.replay.place ∷ []
   pub replays : Replays known.replay entries
   pub rates : KeepsRates known.rates entries
@@ -95,7 +95,7 @@ HasReadAll pass tables = (entries : List Entry) × (sales : List (ℕ × (ℕ ×
     × IsBehind sale_cells (map sale_row sales) tables.sale pass.sales
 
 -- all entries are judged, and no sale is left
-abbrev pub HasJudgedAll : Known → Tables → Type 0
+abbrev pub HasJudgedAll : Replayed → Tables → Type 0
 HasJudgedAll known tables = (entries : List Entry) × (sales : List (ℕ × (ℕ × SaleParts)))
     × Judged known tables entries sales
     × (tables.entry ≡ entry_rows 1 entries)

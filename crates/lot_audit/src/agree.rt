@@ -1,6 +1,6 @@
 ghost use Rattle.lot_audit.specs.Told.{TellsAccount, TellsAllowed, TellsCommodity, TellsHead, TellsLot, TellsOpening, TellsPlain};
 
-use crate::pass::Known;
+use crate::pass::Replayed;
 use lot_rows::account::AccountRow;
 use lot_rows::allowed::AllowedRow;
 use lot_rows::commodity::CommodityRow;
@@ -13,7 +13,7 @@ use lot_table::TableRow;
 /// A row of a table that is compared with what is known of the entries.
 pub(crate) trait ToldRow: TableRow {
     ghost use Rattle.std.specs.Prelude.{◌↔◌, IsTrue, List};
-    ghost use Rattle.lot_audit.specs.declared.pass.Known.{Known as KnownOf};
+    ghost use Rattle.lot_audit.specs.declared.pass.Replayed.{Replayed as KnownOf};
     ghost use Rattle.lot_rows.specs.Tables.{Tables};
 
     // The rows of the table, and what each of them has to say.
@@ -22,7 +22,7 @@ pub(crate) trait ToldRow: TableRow {
     ghost Tells: { KnownOf → Self → Type 0 };
 
     /// Returns whether the row says what is known.
-    fn agrees(self, known: &Known) -> bool
+    fn agrees(self, known: &Replayed) -> bool
         ensures { IsTrue result ↔ Tells known.now self };
 }
 
@@ -32,7 +32,7 @@ impl ToldRow for AccountRow {
 
     ghost Tells = { λ known. TellsAccount known.replay.view };
 
-    fn agrees(self, known: &Known) -> bool {
+    fn agrees(self, known: &Replayed) -> bool {
         match known.replay.view().standing(&self.name) {
             Some(standing) => {
                 standing.opened == self.opened
@@ -50,7 +50,7 @@ impl ToldRow for AllowedRow {
 
     ghost Tells = { λ known. TellsAllowed known.replay.view };
 
-    fn agrees(self, known: &Known) -> bool {
+    fn agrees(self, known: &Replayed) -> bool {
         known.replay.view().standing(&self.account).is_some()
     }
 }
@@ -61,7 +61,7 @@ impl ToldRow for CommodityRow {
 
     ghost Tells = { λ known. TellsCommodity known.replay.view };
 
-    fn agrees(self, known: &Known) -> bool {
+    fn agrees(self, known: &Replayed) -> bool {
         known.replay.view().is_declared(&self.name)
     }
 }
@@ -72,7 +72,7 @@ impl ToldRow for HeadRow {
 
     ghost Tells = { λ known. TellsHead known.replay.view };
 
-    fn agrees(self, known: &Known) -> bool {
+    fn agrees(self, known: &Replayed) -> bool {
         let view = known.replay.view();
         view.latest_at_cost(&self.account, &self.commodity) == Some(self.day)
     }
@@ -84,7 +84,7 @@ impl ToldRow for LotRow {
 
     ghost Tells = { λ known. TellsLot known.replay.view };
 
-    fn agrees(self, known: &Known) -> bool {
+    fn agrees(self, known: &Replayed) -> bool {
         let view = known.replay.view();
         view.units(&self.account, &self.commodity, Some(&self.lot)) == self.units.units()
     }
@@ -96,7 +96,7 @@ impl ToldRow for PlainRow {
 
     ghost Tells = { λ known. TellsPlain known.replay.view };
 
-    fn agrees(self, known: &Known) -> bool {
+    fn agrees(self, known: &Replayed) -> bool {
         let view = known.replay.view();
         view.units(&self.account, &self.commodity, None) == self.units.units()
     }
@@ -108,7 +108,7 @@ impl ToldRow for OpeningRow {
 
     ghost Tells = { λ known. TellsOpening known.replay.view };
 
-    fn agrees(self, known: &Known) -> bool {
+    fn agrees(self, known: &Replayed) -> bool {
         let Some(held) = known.replay.view().held(&self.account) else {
             return false;
         };

@@ -7,7 +7,7 @@ ghost use Rattle.sqlite.specs.Held.{state};
 
 use crate::agree::ToldRow;
 use crate::has::have_rows;
-use crate::pass::Known;
+use crate::pass::Replayed;
 use crate::watch::{Spot, Table, Watch};
 use lot_page::LegCursor;
 use lot_rows::account::{self, AccountRow};
@@ -28,7 +28,7 @@ pub(crate) fn agree<S: Alter, W: Watch>(
     alloc: Global,
     conn: &mut Connection<S>,
     watch: &mut W,
-    known: &Known,
+    known: &Replayed,
 ) -> Result<bool, Fault>
     ensures checks { Checks (λ is tables. IsTrue is ↔ Agree known.now tables)
         (state S.Store conn.old) (state S.Store conn.new) result }
@@ -50,7 +50,7 @@ fn names_agree<S: Alter, W: Watch>(
     alloc: Global,
     conn: &mut Connection<S>,
     watch: &mut W,
-    known: &Known,
+    known: &Replayed,
 ) -> Result<bool, Fault>
     ensures checks { Checks (λ is tables. IsTrue is ↔ NamesTold known.now.replay.view tables)
         (state S.Store conn.old) (state S.Store conn.new) result }
@@ -75,7 +75,7 @@ fn amounts_agree<S: Alter, W: Watch>(
     alloc: Global,
     conn: &mut Connection<S>,
     watch: &mut W,
-    known: &Known,
+    known: &Replayed,
 ) -> Result<bool, Fault>
     ensures checks { Checks
         (λ is tables. IsTrue is ↔ AmountsTold known.now.replay.view known.now.rates tables)
@@ -102,7 +102,7 @@ fn are_told<S: Alter, W: Watch, R: ToldRow>(
     alloc: Global,
     conn: &mut Connection<S>,
     watch: &mut W,
-    known: &Known,
+    known: &Replayed,
     statement: &str,
 ) -> Result<bool, Fault>
     requires { AsksForAll R.TableRow.encode R.TableRow.IsGood R.ToldRow.rows statement.now }

@@ -19,7 +19,7 @@ use std::alloc::Global;
 
 /// What is known of the entries that are judged again.
 #[derive(Drop)]
-pub(crate) struct Known {
+pub(crate) struct Replayed {
     pub(crate) replay: Replay,
     pub(crate) rates: Rates,
 }
@@ -27,7 +27,7 @@ pub(crate) struct Known {
 /// A pass over the entries: what is known so far, and the places in the tables `entry` and `sale`.
 #[derive(Drop)]
 struct Pass {
-    known: Known,
+    known: Replayed,
     entries: EntryCursor,
     sales: SaleCursor,
 }
@@ -38,7 +38,7 @@ impl Pass {
         ensures begins { (tables : Tables) → SaysPlace place tables → HasJudged result tables }
     {
         Pass {
-            known: Known {
+            known: Replayed {
                 replay: Replay::new(alloc, place),
                 rates: Rates::new(alloc),
             },
@@ -57,7 +57,7 @@ pub(crate) fn judge_all<S: Alter, W: Watch>(
     conn: &mut Connection<S>,
     watch: &mut W,
     place: u32,
-) -> Result<Known, Fault>
+) -> Result<Replayed, Fault>
     ensures judges { ChecksWhere (SaysPlace place) HasJudgedAll
         (state S.Store conn.old) (state S.Store conn.new) result }
 {
@@ -74,7 +74,7 @@ pub(crate) fn judge_all<S: Alter, W: Watch>(
 }
 
 /// Returns what is known where no entry is left, and no sale.
-fn end<S: Alter>(conn: &mut Connection<S>, pass: Pass) -> Result<Known, Fault>
+fn end<S: Alter>(conn: &mut Connection<S>, pass: Pass) -> Result<Replayed, Fault>
     ensures ends { ChecksWhere (HasReadAll pass) HasJudgedAll
         (state S.Store conn.old) (state S.Store conn.new) result }
 {
@@ -105,7 +105,7 @@ fn judge_row<S: Alter, W: Watch>(
         entries,
         mut sales,
     } = pass;
-    let Known { replay, mut rates } = known;
+    let Replayed { replay, mut rates } = known;
     let number = row.number;
     let entry = number.number();
     watch.look(Spot::Entry(entry));
@@ -138,7 +138,7 @@ fn judge_row<S: Alter, W: Watch>(
     }
     rates.quote(&said.command)?;
     Ok(Pass {
-        known: Known { replay, rates },
+        known: Replayed { replay, rates },
         entries,
         sales,
     })

@@ -4,7 +4,7 @@ ghost use Rattle.lot_stored.specs.Kept.{rate_by};
 ghost use Rattle.lot_audit.specs.Rates.{KeepsRates, rate_in};
 
 use crate::agree::ToldRow;
-use crate::pass::Known;
+use crate::pass::Replayed;
 use lot_base::{Commodity, Day};
 use lot_command::Command;
 use lot_num::Rate;
@@ -62,7 +62,7 @@ impl ToldRow for PriceRow {
 
     ghost Tells = { λ known. TellsPrice known.rates };
 
-    fn agrees(self, known: &Known) -> bool {
+    fn agrees(self, known: &Replayed) -> bool {
         let PriceRow {
             base,
             quote,

@@ -12,7 +12,7 @@ use lot_command::{Command, Items};
 use lot_completion::{Completion, Note, Watch};
 use lot_explain::{Finding, Findings};
 use lot_num::Wide;
-use lot_output::Kept;
+use lot_output::Record;
 use lot_report::print_reply;
 use std::alloc::{AllocError, Global};
 
@@ -106,7 +106,7 @@ fn take(taken: &mut Option<Taken>, number: usize, crumbs: Items<(Commodity, Wide
 /// Returns as what was found of a command the reply that its completion gets. The only error is out of
 /// memory.
 fn reply_of(alloc: Global, number: usize, verdict: &Verdict) -> Result<Finding, AllocError> {
-    let mut line = Kept::new(alloc);
+    let mut line = Record::new(alloc);
     let _ = print_reply(&mut line, number, verdict);
     match line.bytes {
         Some(reply) => Ok(Finding::Refused { reply }),

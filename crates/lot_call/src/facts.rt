@@ -4,7 +4,7 @@ ghost use Rattle.std.specs.Prelude.{◌≡◌};
 ghost use Rattle.lot_call.specs.Looks.{Looks};
 
 use lot_base::{Account, Commodity, Label, NameFault};
-use lot_explain::{Entry, Known, Latest, Lot};
+use lot_explain::{BookReader, Entry, Latest, Lot};
 use lot_rows::account::{self, AccountRow};
 use lot_rows::entry::{self, EntryRow};
 use lot_rows::head::{self, HeadRow};
@@ -21,7 +21,7 @@ pub(crate) struct Facts<'a, D> {
     pub(crate) db: &'a mut D,
 }
 
-impl<D: Queryable> Known for Facts<'_, D> {
+impl<D: Queryable> BookReader for Facts<'_, D> {
     fn entry(&mut self, source: &str, name: &str) -> Result<Option<Entry>, AllocError> {
         let (source, name) = (label(self.alloc, source)?, label(self.alloc, name)?);
         match (source, name) {

@@ -44,7 +44,7 @@ pub use notes::{say_fate, say_why, sum_up};
 pub use profile::{LoadFault, Loaded, load, loaded_from};
 pub use remains::{say_cut_short, say_unwritten};
 pub use remembered::Remembered;
-pub use standing::Standing;
+pub use standing::FileKind;
 pub use status::out_of_memory;
 pub use taken::say_taken;
 pub use told::{explain, tell};

@@ -11,7 +11,7 @@ use crate::facts::{find_entry, find_latest, find_locked, list_accounts, list_lot
 use lot_base::{Account, Commodity, Label};
 use lot_book::{Pair, Refusal, Verdict};
 use lot_command::{Command, Key};
-use lot_explain::{Entry, Known, Latest, Lot};
+use lot_explain::{BookReader, Entry, Latest, Lot};
 use lot_rounding::Asked;
 use lot_table::{Fault, Queryable};
 use std::alloc::{AllocError, Global};
@@ -225,7 +225,7 @@ impl Remembered {
     }
 }
 
-impl Known for Remembered {
+impl BookReader for Remembered {
     fn entry(&mut self, _source: &str, name: &str) -> Result<Option<Entry>, AllocError> {
         let Ok(name) = Label::new(self.alloc, name) else {
             return Ok(None);

@@ -7,7 +7,7 @@ use sqlite::{Alter, Connection, Error};
 
 /// What stands in the place of the book that a call is on, where its action can't begin with it.
 #[derive(Clone, Copy)]
-pub enum Standing {
+pub enum FileKind {
     Nothing,
     EmptyFile,
     Book,
@@ -15,47 +15,47 @@ pub enum Standing {
     OtherDatabase,
 }
 
-impl Standing {
+impl FileKind {
     /// Returns what stands at a path where no book does, with a connection to it. It is `None` where
     /// the database can't be read.
     pub fn of_no_book<S: Alter>(
         rt: &HostRuntime,
         path: &str,
         conn: &mut Connection<S>,
-    ) -> Option<Standing> {
+    ) -> Option<FileKind> {
         if is_missing(rt, path) {
-            return Some(Standing::Nothing);
+            return Some(FileKind::Nothing);
         }
         Some(if finds(conn, "SELECT name FROM sqlite_schema LIMIT 1")? {
-            Standing::OtherDatabase
+            FileKind::OtherDatabase
         } else {
-            Standing::EmptyFile
+            FileKind::EmptyFile
         })
     }
 
     /// Returns what a database is that isn't empty. It is `None` where it can't be read.
-    pub fn of_database<S: Alter>(conn: &mut Connection<S>) -> Option<Standing> {
+    pub fn of_database<S: Alter>(conn: &mut Connection<S>) -> Option<FileKind> {
         Some(if finds(conn, book::MARKED)? {
-            Standing::Book
+            FileKind::Book
         } else {
-            Standing::OtherDatabase
+            FileKind::OtherDatabase
         })
     }
 
     /// Says on standard error what stands at a path, and the call that helps, unless it can't be copied from a terminal.
     pub fn say(self, rt: &HostRuntime, path: &str) {
         let (what, help) = match self {
-            Standing::Nothing => (": there is no such file", Some(("init", "makes a book"))),
-            Standing::EmptyFile => (
+            FileKind::Nothing => (": there is no such file", Some(("init", "makes a book"))),
+            FileKind::EmptyFile => (
                 " is empty, as after a `restore` that made no book, which can be called again",
                 Some(("init", "makes an empty book of it")),
             ),
-            Standing::Book => (" is a book already", None),
-            Standing::OlderBook => (
+            FileKind::Book => (" is a book already", None),
+            FileKind::OlderBook => (
                 " is a book of edition 1",
                 Some(("migrate", "takes it over")),
             ),
-            Standing::OtherDatabase => (
+            FileKind::OtherDatabase => (
                 " is a database of another program: its tables aren't those of a book",
                 None,
             ),

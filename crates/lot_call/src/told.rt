@@ -13,7 +13,7 @@ use lot_args::Action;
 use lot_base::Label;
 use lot_command::Key;
 use lot_explain::{ExportRows, Source, list, nearest_code, notes};
-use lot_output::{Heard, Kept, Output};
+use lot_output::{Heard, Output, Record};
 use lot_profile_text::{NOTES, SECTIONS, explain_profile};
 use lot_rounding::Asked;
 use lot_stream::{DONE, STOPPED, UNUSABLE};
@@ -64,7 +64,7 @@ fn unknown(rt: &HostRuntime, word: &str) -> u8 {
 /// it is. Where memory ends or that can't be written, less is said.
 pub fn explain<'a, S: Alter>(
     call: &'a Call<'a>,
-    read: &'a Kept,
+    read: &'a Record,
     heard: &'a Heard,
     crumbs: &'a Crumbs,
     remembered: &mut Remembered,
@@ -90,7 +90,7 @@ pub fn explain<'a, S: Alter>(
         None => &[],
     };
     let (source, from) = source_of(call.action, &rows, commands);
-    let asked = lot_explain::Call {
+    let asked = lot_explain::Transcript {
         source,
         input: input.as_slice(),
         from,

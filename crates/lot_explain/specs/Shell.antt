@@ -14,14 +14,14 @@ is_plain text = not (length text == 0) && list_all is_plain_byte text
 -- ---- reading
 
 -- where a shell is in a word
-pub data Place : Type 0 where
-  outside : Place
-  in_quotes : Place
-  behind_backslash : Place
+pub data InputPlace : Type 0 where
+  outside : InputPlace
+  in_quotes : InputPlace
+  behind_backslash : InputPlace
 
 -- what it reads of the rest of a word of plain bytes, of text in single quotes, in which each byte stands for itself, and of
 -- quotes behind a backslash; nothing of another
-abbrev pub rest_of : Place → List ℕ → Option (List ℕ)
+abbrev pub rest_of : InputPlace → List ℕ → Option (List ℕ)
 rest_of outside [] = Some []
 rest_of in_quotes [] = None
 rest_of behind_backslash [] = None

@@ -16,7 +16,7 @@ use std::alloc::{AllocError, Global};
 
 /// What a book says behind the last command of a run, whether it is kept or not. A call returns nothing where the book can't be
 /// read. The only error is out of memory.
-pub trait Known {
+pub trait BookReader {
     /// Returns the entry under a key, given as its source and its name.
     fn entry(&mut self, source: &str, name: &str) -> Result<Option<Entry>, AllocError>;
 
@@ -61,7 +61,7 @@ pub struct Lot {
 
 /// Says which entry stands under the key of a command, and the first line in which they differ. Of the row of a broker file,
 /// which doesn't show its postings, it says both lines.
-pub(crate) fn key_reused<B: Known>(
+pub(crate) fn key_reused<B: BookReader>(
     alloc: Global,
     book: &mut B,
     refused: &Refused<'_>,
@@ -144,7 +144,7 @@ fn first_difference<'a>(standing: &'a str, sent: &'a str) -> Difference<'a> {
 
 /// Says which opened account has the name nearest to that of an account that wasn't opened. Without a book the opened
 /// accounts are those that the text opens.
-pub(crate) fn unknown_account<B: Known>(
+pub(crate) fn unknown_account<B: BookReader>(
     alloc: Global,
     book: &mut B,
     refused: &Refused<'_>,
@@ -177,7 +177,7 @@ pub(crate) fn unknown_account<B: Known>(
 }
 
 /// Says on which day, and by which entry, the pair of a posting was last posted to with braces.
-pub(crate) fn back_dated<B: Known>(
+pub(crate) fn back_dated<B: BookReader>(
     alloc: Global,
     book: &mut B,
     posting: &Posting,
@@ -196,7 +196,7 @@ pub(crate) fn back_dated<B: Known>(
 /// Says how many lots the braces of a posting fit, what they hold, and in what they differ. Of a posting that takes more
 /// than they hold it says both amounts. It says nothing where no lot of the commodity is held, or where the lots can't be
 /// read.
-pub(crate) fn fitting<B: Known>(
+pub(crate) fn fitting<B: BookReader>(
     alloc: Global,
     book: &mut B,
     posting: &Posting,

@@ -1,6 +1,6 @@
 //! What there is to say of the refusals and the faults of a call.
 
-use crate::book::Known;
+use crate::book::BookReader;
 use crate::export::ExportRows;
 use crate::finding::Findings;
 use crate::left_out::{note_left_out, note_left_out_by_name};
@@ -62,7 +62,7 @@ pub(crate) struct Key<'a> {
 
 /// What a call read, and what it said of it.
 #[derive(Clone, Copy)]
-pub struct Call<'a> {
+pub struct Transcript<'a> {
     pub source: Source<'a>,
     /// All that was read.
     pub input: &'a [u8],
@@ -83,7 +83,7 @@ pub struct Call<'a> {
     pub findings: &'a Findings,
 }
 
-impl<'a> Call<'a> {
+impl<'a> Transcript<'a> {
     /// Returns the key of a command. Its name is the number of the command or, in a broker file,
     /// the `ref`. Those of a dump aren't known.
     pub(crate) fn key(&self, name: &'a str) -> Key<'a> {
@@ -125,11 +125,11 @@ impl<'a> Call<'a> {
 /// Then it writes as many lines of rows that are left out, and one for each `ref` or name to be left out that
 /// no row has; and as many warnings, each of a place that may have been meant otherwise. Where memory
 /// ends, nothing more is written.
-pub fn notes<W: Write, B: Known>(
+pub fn notes<W: Write, B: BookReader>(
     alloc: Global,
     writer: &mut W,
     book: &mut B,
-    call: &Call<'_>,
+    call: &Transcript<'_>,
     most: u64,
 ) -> io::Result<()> {
     let mut reading = Reading::of(alloc, call)?;

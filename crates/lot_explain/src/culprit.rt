@@ -16,7 +16,7 @@ pub(crate) enum Culprit<'a> {
     /// It ends too early.
     End,
     /// It is a posting, and no transaction stands before it.
-    Place,
+    InputPlace,
     /// That isn't known.
     Unknown,
 }
@@ -127,7 +127,7 @@ fn first_amiss<'a>(
         rest = behind;
     }
     match judge(alloc, before(line.as_bytes()), line.as_bytes(), b"")? {
-        Ok(_) => Ok(Culprit::Place),
+        Ok(_) => Ok(Culprit::InputPlace),
         Err(_) => Ok(Culprit::End),
     }
 }

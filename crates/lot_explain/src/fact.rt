@@ -6,7 +6,7 @@ ghost use Rattle.lot_import.specs.declared.accounts.Accounts.{Accounts as Accoun
 ghost use Rattle.lot_rounding.specs.Nearest.{most_decimals};
 ghost use Rattle.lot_explain.specs.Crumbs.{postings_in};
 
-use crate::book::{Known, back_dated, fitting, key_reused, unknown_account};
+use crate::book::{BookReader, back_dated, fitting, key_reused, unknown_account};
 use crate::refused::{Refused, item};
 use crate::residual::residual;
 use lot_command::{Amount, Command, Cost, Posting};
@@ -23,7 +23,7 @@ const ONE: u128 = 100_000_000;
 
 /// Returns what there is to say of the refusal of a command beside its rule, with a colon before
 /// it. It is empty where there is nothing to say. The only error is out of memory.
-pub(crate) fn fact<B: Known>(
+pub(crate) fn fact<B: BookReader>(
     alloc: Global,
     book: &mut B,
     refused: &Refused<'_>,

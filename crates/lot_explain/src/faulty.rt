@@ -5,7 +5,7 @@ use crate::culprit::{Culprit, Sense, before, culprit_of, judge};
 use crate::explained::find;
 use crate::fact::number_fault;
 use crate::notebook::Notebook;
-use crate::place::Place;
+use crate::place::InputPlace;
 use crate::records::{Records, column};
 use crate::shown::Shown;
 use crate::site::{Kind, Site, is_indented, kind_of};
@@ -81,7 +81,7 @@ fn note_line<W: Write>(
     let Site { number, line } = site;
     let brief = code.brief;
     let fact = fact_of(alloc, culprit_of(alloc, line, fault)?, fault)?;
-    let place = Place::Line { number, line };
+    let place = InputPlace::Line { number, line };
     notes.note(place, format_args!("{code}: {brief}{fact}"))
 }
 
@@ -111,7 +111,7 @@ fn fact_of(alloc: Global, culprit: Culprit<'_>, fault: LineFault) -> Result<Stri
             }
         }
         Culprit::End => String::from_str(alloc, ": the line ends too early"),
-        Culprit::Place => String::from_str(alloc, ": no transaction is before this posting"),
+        Culprit::InputPlace => String::from_str(alloc, ": no transaction is before this posting"),
         Culprit::Unknown => Ok(String::new(alloc)),
     }
 }

@@ -1,9 +1,9 @@
 //! The rows of a broker file or an export that a call leaves out, and those that it should leave out and that aren't there.
 
-use crate::call::Call;
+use crate::call::Transcript;
 use crate::export::ExportRows;
 use crate::notebook::Notebook;
-use crate::place::Place;
+use crate::place::InputPlace;
 use crate::reading::place_in;
 use crate::records::Records;
 use crate::shown::Shown;
@@ -17,7 +17,7 @@ use std::io::{self, Write};
 pub(crate) fn note_left_out<W: Write>(
     alloc: Global,
     writer: &mut W,
-    call: &Call<'_>,
+    call: &Transcript<'_>,
     rows: &[Row],
     most: u64,
 ) -> io::Result<()> {
@@ -31,7 +31,7 @@ pub(crate) fn note_left_out<W: Write>(
     for name in call.except {
         if !has_row(rows, name) {
             let name = Shown(name.as_str().as_bytes());
-            notes.note(Place::Whole, format_args!("no row has the ref {name}"))?;
+            notes.note(InputPlace::Whole, format_args!("no row has the ref {name}"))?;
         }
     }
     notes.end()
@@ -41,7 +41,7 @@ pub(crate) fn note_left_out<W: Write>(
 pub(crate) fn note_left_out_by_name<W: Write>(
     alloc: Global,
     writer: &mut W,
-    call: &Call<'_>,
+    call: &Transcript<'_>,
     rows: &ExportRows,
     most: u64,
 ) -> io::Result<()> {
@@ -60,7 +60,7 @@ pub(crate) fn note_left_out_by_name<W: Write>(
         if !has_name(rows, name) {
             let name = Shown(name.as_str().as_bytes());
             notes.note(
-                Place::Whole,
+                InputPlace::Whole,
                 format_args!("no row has a key with the name {name}"),
             )?;
         }
@@ -72,7 +72,7 @@ pub(crate) fn note_left_out_by_name<W: Write>(
 fn note_rows<W: Write>(
     alloc: Global,
     notes: &mut Notebook<'_, W>,
-    call: &Call<'_>,
+    call: &Transcript<'_>,
     rows: &[Row],
 ) -> io::Result<()> {
     let mut records = Records::new(alloc, call.input)?;

@@ -8,7 +8,7 @@
 //! - `faulty`: lines and rows that are faulty, with the part that is at fault (`culprit`), and the
 //!   name that may have been meant (`commodity`).
 //! - `refused`: commands and rows that are refused, with what is known of them (`fact`): from their
-//!   text (`residual`), and from the book once the run is over (`book`, `Known`).
+//!   text (`residual`), and from the book once the run is over (`book`, `BookReader`).
 //! - `crumbs`: what was found of their crumbs as they were judged (`finding`); `bound`: how large these
 //!   are. `form`: whether an entry is a completion of a command.
 //! - `left_out`: rows that are left out. `warning`: what may have been meant otherwise. `commas`: which columns of a broker file have
@@ -51,8 +51,8 @@ mod site;
 mod split;
 mod warning;
 
-pub use book::{Entry, Known, Latest, Lot};
-pub use call::{Call, Source, notes};
+pub use book::{BookReader, Entry, Latest, Lot};
+pub use call::{Source, Transcript, notes};
 pub use causes::Cause;
 pub use explained::{cause_of, explain, list, nearest_code};
 pub use export::{ExportRow, ExportRows, line_at};

@@ -1,6 +1,6 @@
 //! What is noted of a call, a line each: as many as are wanted, and then how many there were more.
 
-use crate::place::Place;
+use crate::place::InputPlace;
 use std::alloc::Global;
 use std::fmt::Display;
 use std::io::{self, Write};
@@ -34,7 +34,11 @@ impl<'a, W: Write> Notebook<'a, W> {
 
     /// Writes one more note in one piece, or counts it where enough are written: a place, what is
     /// said of it, and what stands there.
-    pub(crate) fn note<T: Display + Drop>(&mut self, place: Place<'_>, text: T) -> io::Result<()> {
+    pub(crate) fn note<T: Display + Drop>(
+        &mut self,
+        place: InputPlace<'_>,
+        text: T,
+    ) -> io::Result<()> {
         if self.has_room() {
             match place.line() {
                 Some(line) => self.write(format_args!("{place}{text}: {line}"))?,

@@ -5,7 +5,7 @@ use std::fmt;
 
 /// A place of the input. It is printed as what stands before what is said of it.
 #[derive(Clone, Copy)]
-pub(crate) enum Place<'a> {
+pub(crate) enum InputPlace<'a> {
     /// A line, from 1.
     Line {
         number: u64,
@@ -33,35 +33,38 @@ pub(crate) enum Place<'a> {
     Whole,
 }
 
-impl<'a> Place<'a> {
+impl<'a> InputPlace<'a> {
     /// Returns what stands there without its indent, where that is a line.
     pub(crate) fn line(&self) -> Option<Shown<'a>> {
         match self {
-            Place::Line { line, .. } | Place::Command { line, .. } | Place::Row { line, .. } => {
-                Some(Shown(line.trim_ascii_start()))
-            }
-            Place::Number(_) | Place::RowNumber(_) | Place::Unkept(_) | Place::Whole => None,
+            InputPlace::Line { line, .. }
+            | InputPlace::Command { line, .. }
+            | InputPlace::Row { line, .. } => { Some(Shown(line.trim_ascii_start())) }
+            InputPlace::Number(_)
+            | InputPlace::RowNumber(_)
+            | InputPlace::Unkept(_)
+            | InputPlace::Whole => None,
         }
     }
 }
 
-impl fmt::Display for Place<'_> {
+impl fmt::Display for InputPlace<'_> {
     fn fmt<W: fmt::Write>(&self, f: &mut fmt::Formatter<W>) -> fmt::Result {
         match self {
-            Place::Line { number, .. } => write!(f, "line {number}: "),
-            Place::Command {
+            InputPlace::Line { number, .. } => write!(f, "line {number}: "),
+            InputPlace::Command {
                 number,
                 command,
                 ..
             } => write!(f, "line {number}, command {command}: "),
-            Place::Row { row, name, .. } => {
+            InputPlace::Row { row, name, .. } => {
                 let name = Shown(name);
                 write!(f, "row {row} ({name}): ")
             }
-            Place::Number(number) => write!(f, "number {number}: "),
-            Place::RowNumber(number) => write!(f, "row {number}: "),
-            Place::Unkept(number) => write!(f, "line {number}: "),
-            Place::Whole => Ok(()),
+            InputPlace::Number(number) => write!(f, "number {number}: "),
+            InputPlace::RowNumber(number) => write!(f, "row {number}: "),
+            InputPlace::Unkept(number) => write!(f, "line {number}: "),
+            InputPlace::Whole => Ok(()),
         }
     }
 }

@@ -1,8 +1,8 @@
 //! The commands of a ledger text, and those of a broker file, with their places.
 
-use crate::call::{Call, Source};
+use crate::call::{Source, Transcript};
 use crate::export::{ExportRows, row_at};
-use crate::place::Place;
+use crate::place::InputPlace;
 use crate::records::Records;
 use crate::site::Sites;
 use lot_command::{Command, Key};
@@ -35,7 +35,7 @@ pub(crate) enum Reading<'a> {
 
 impl<'a> Reading<'a> {
     /// Reads what a call was given. The only error is out of memory.
-    pub(crate) fn of(alloc: Global, call: &Call<'a>) -> Result<Reading<'a>, AllocError> {
+    pub(crate) fn of(alloc: Global, call: &Transcript<'a>) -> Result<Reading<'a>, AllocError> {
         Ok(match call.source {
             Source::Text { .. } | Source::Row { .. } => Reading::Text {
                 commands: commands_of(alloc, call)?,
@@ -70,38 +70,38 @@ impl<'a> Reading<'a> {
         &mut self,
         number: usize,
         posting: Option<usize>,
-    ) -> Result<Place<'_>, AllocError> {
+    ) -> Result<InputPlace<'_>, AllocError> {
         match self {
             Reading::Text { sites, .. } => Ok(match sites.find(number, posting) {
-                Some(site) => Place::Command {
+                Some(site) => InputPlace::Command {
                     number: site.number,
                     command: number,
                     line: site.line,
                 },
-                None => Place::Number(number),
+                None => InputPlace::Number(number),
             }),
             Reading::Rows { records, .. } => records.go_to(number),
             Reading::Export { rows, .. } => Ok(place_in(rows, number)),
-            Reading::Dump => Ok(Place::Unkept(number)),
+            Reading::Dump => Ok(InputPlace::Unkept(number)),
         }
     }
 }
 
 /// Returns the place of the row of that number of an export.
-pub(crate) fn place_in(rows: &ExportRows, number: usize) -> Place<'_> {
+pub(crate) fn place_in(rows: &ExportRows, number: usize) -> InputPlace<'_> {
     match row_at(rows, number) {
-        Some(row) => Place::Row {
+        Some(row) => InputPlace::Row {
             row: number,
             name: row.name.as_str().as_bytes(),
             line: row.fields.as_bytes(),
         },
-        None => Place::RowNumber(number),
+        None => InputPlace::RowNumber(number),
     }
 }
 
 /// Returns the commands of a text: none where it is faulty, or where nothing was said of it, so that
 /// no text is read again for nothing. The only error is out of memory.
-fn commands_of(alloc: Global, call: &Call<'_>) -> Result<Vec<Command>, AllocError> {
+fn commands_of(alloc: Global, call: &Transcript<'_>) -> Result<Vec<Command>, AllocError> {
     if call.lines.is_empty() {
         return Ok(Vec::new(alloc));
     }

@@ -5,7 +5,7 @@ ghost use Rattle.csv.specs.Records.{fields_of};
 ghost use Rattle.lot_import.specs.Row.{at_column};
 ghost use Rattle.lot_explain.specs.Records.{column_of, is_of_another_lot};
 
-use crate::place::Place;
+use crate::place::InputPlace;
 use csv::{ByteRecord, ErrorKind, Reader, ReaderBuilder};
 use lot_import::{Cause, Version, causes_of, field};
 use std::alloc::{AllocError, Global};
@@ -91,7 +91,7 @@ impl<'a> Records<'a> {
 
     /// Reads on to the row of that number, from 1, and returns its place. The only error is out of
     /// memory.
-    pub(crate) fn go_to(&mut self, row: usize) -> Result<Place<'_>, AllocError> {
+    pub(crate) fn go_to(&mut self, row: usize) -> Result<InputPlace<'_>, AllocError> {
         for _row in self.row..row {
             if !self.next_row()? {
                 break;
@@ -100,7 +100,7 @@ impl<'a> Records<'a> {
         Ok(if self.row == row {
             self.place()
         } else {
-            Place::Number(row)
+            InputPlace::Number(row)
         })
     }
 
@@ -128,8 +128,8 @@ impl<'a> Records<'a> {
     }
 
     /// Returns the place of the last record.
-    pub(crate) fn place(&self) -> Place<'_> {
-        Place::Row {
+    pub(crate) fn place(&self) -> InputPlace<'_> {
+        InputPlace::Row {
             row: self.row,
             name: self.field(REF),
             line: self.written.trim_ascii(),

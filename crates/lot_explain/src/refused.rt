@@ -4,8 +4,8 @@
 ghost use Rattle.std.specs.Prelude.{◌≡◌, option_map};
 ghost use Rattle.lot_explain.specs.Cause.{cause_behind, is_of_disk};
 
-use crate::book::Known;
-use crate::call::{Call, Key, Naming};
+use crate::book::BookReader;
+use crate::call::{Key, Naming, Transcript};
 use crate::crumbs::crumbs;
 use crate::explained::find;
 use crate::export::{ExportRow, row_at};
@@ -14,7 +14,7 @@ use crate::faulty::{faulty_lines, faulty_rows};
 use crate::finding::Finding;
 use crate::left_out::is_only;
 use crate::notebook::Notebook;
-use crate::place::Place;
+use crate::place::InputPlace;
 use crate::quoted::LongOption;
 use crate::reading::Reading;
 use crate::said::{Said, heard};
@@ -45,11 +45,11 @@ pub(crate) struct Refused<'a> {
 }
 
 /// Notes each refusal and each fault that a call said.
-pub(crate) fn note_lines<W: Write, B: Known>(
+pub(crate) fn note_lines<W: Write, B: BookReader>(
     alloc: Global,
     notes: &mut Notebook<'_, W>,
     book: &mut B,
-    call: &Call<'_>,
+    call: &Transcript<'_>,
     reading: &mut Reading<'_>,
 ) -> io::Result<()> {
     for line in Lines::new(call.lines) {
@@ -71,11 +71,11 @@ pub(crate) fn note_lines<W: Write, B: Known>(
 
 /// Notes what was said of a command or a row, or of the whole input. It leaves out faults of a book
 /// that can't be opened or taken up: the program says more of these.
-fn note_said<W: Write, B: Known>(
+fn note_said<W: Write, B: BookReader>(
     alloc: Global,
     notes: &mut Notebook<'_, W>,
     book: &mut B,
-    call: &Call<'_>,
+    call: &Transcript<'_>,
     reading: &mut Reading<'_>,
     said: &Said<'_>,
 ) -> io::Result<()> {
@@ -88,13 +88,16 @@ fn note_said<W: Write, B: Known>(
         None if said.code == "C1" => {
             let header = Shown(reading.header());
             notes.note(
-                Place::Whole,
+                InputPlace::Whole,
                 format_args!("{code}: {brief}: the file begins with `{header}`"),
             )
         }
         None => {
             let (colon, cause) = cause_behind(said.code, call.cause);
-            notes.note(Place::Whole, format_args!("{code}: {brief}{colon}{cause}"))
+            notes.note(
+                InputPlace::Whole,
+                format_args!("{code}: {brief}{colon}{cause}"),
+            )
         }
         Some(number) => {
             let (colon, cause) = cause_behind(said.code, call.cause);
@@ -119,10 +122,10 @@ fn cause_behind<'a>(code: &str, cause: Option<&'a str>) -> (&'static str, &'a st
 
 /// Returns what is known of the command or row of that number, with what stands before it, or
 /// nothing. The only error is out of memory.
-fn known<'a, B: Known>(
+fn known<'a, B: BookReader>(
     alloc: Global,
     book: &mut B,
-    call: &'a Call<'a>,
+    call: &'a Transcript<'a>,
     reading: &'a Reading<'_>,
     number: usize,
     said: &'a Said<'a>,
@@ -184,10 +187,10 @@ fn known<'a, B: Known>(
 }
 
 /// Returns the same of the row of that number of an export.
-fn known_of_export<'a, B: Known>(
+fn known_of_export<'a, B: BookReader>(
     alloc: Global,
     book: &mut B,
-    call: &'a Call<'a>,
+    call: &'a Transcript<'a>,
     number: usize,
     row: &'a ExportRow,
     commands: &'a [(CommandKey, Asked)],

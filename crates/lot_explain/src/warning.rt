@@ -1,10 +1,10 @@
 //! What is read otherwise than it may have been meant, though no rule is broken.
 
-use crate::book::Known;
-use crate::call::Call;
+use crate::book::BookReader;
+use crate::call::Transcript;
 use crate::commas::{Commas, first_with_comma};
 use crate::notebook::Notebook;
-use crate::place::Place;
+use crate::place::InputPlace;
 use crate::records::{FEE, PRICE, Records, UNITS};
 use crate::shown::Shown;
 use crate::site::{Kind, commands_in, is_indented, kind_of};
@@ -21,17 +21,17 @@ use std::io::{self, Write};
 use std::{fmt, str};
 
 /// Warns of lines of a ledger text, and of a start past its end.
-pub(crate) fn warn_of_text<W: Write, B: Known>(
+pub(crate) fn warn_of_text<W: Write, B: BookReader>(
     alloc: Global,
     notes: &mut Notebook<'_, W>,
     book: &mut B,
-    call: &Call<'_>,
+    call: &Transcript<'_>,
 ) -> io::Result<()> {
     let has_commas = memchr(b',', call.input).is_some();
     let mut number = 0u64;
     for line in Lines::new(call.input) {
         number = number.saturating_add(1);
-        let place = Place::Line { number, line };
+        let place = InputPlace::Line { number, line };
         if may_open_or_close(line) {
             warn_of_command(alloc, notes, book, place, line)?;
         }
@@ -62,11 +62,11 @@ fn may_open_or_close(line: &[u8]) -> bool {
 
 /// Warns of a line on which a command begins: of a method that stands among the currencies of an
 /// opening, and of the closing of an account that holds something.
-fn warn_of_command<W: Write, B: Known>(
+fn warn_of_command<W: Write, B: BookReader>(
     alloc: Global,
     notes: &mut Notebook<'_, W>,
     book: &mut B,
-    place: Place<'_>,
+    place: InputPlace<'_>,
     line: &[u8],
 ) -> io::Result<()> {
     let commands = match read(alloc, line) {
@@ -93,7 +93,7 @@ fn warn_of_command<W: Write, B: Known>(
 /// Warns of a method that stands among the currencies of an opening.
 fn warn_of_method<W: Write>(
     notes: &mut Notebook<'_, W>,
-    place: Place<'_>,
+    place: InputPlace<'_>,
     opening: &Opening,
 ) -> io::Result<()> {
     for currency in opening.currencies.as_slice() {
@@ -123,7 +123,7 @@ fn number_with_comma(line: &[u8]) -> Option<&str> {
 fn warn_of_number<W: Write>(
     alloc: Global,
     notes: &mut Notebook<'_, W>,
-    place: Place<'_>,
+    place: InputPlace<'_>,
     number: &str,
 ) -> io::Result<()> {
     let Ok(units) = Units::parse(number) else {
@@ -150,7 +150,7 @@ fn warn_of_start<W: Write>(
         return Ok(());
     }
     notes.note(
-        Place::Whole,
+        InputPlace::Whole,
         format_args!("warning: --from {from} is past the end of {count} {these}: none was run"),
     )
 }
@@ -160,7 +160,7 @@ fn warn_of_start<W: Write>(
 pub(crate) fn warn_of_rows<W: Write>(
     alloc: Global,
     notes: &mut Notebook<'_, W>,
-    call: &Call<'_>,
+    call: &Transcript<'_>,
     rows: &[Row],
 ) -> io::Result<()> {
     if rows.is_empty() {
@@ -176,7 +176,7 @@ pub(crate) fn warn_of_rows<W: Write>(
 fn warn_of_order<W: Write>(
     alloc: Global,
     notes: &mut Notebook<'_, W>,
-    call: &Call<'_>,
+    call: &Transcript<'_>,
     rows: &[Row],
 ) -> io::Result<()> {
     let (Some(first), Some(last)) = ends(call, rows) else {
@@ -188,7 +188,7 @@ fn warn_of_order<W: Write>(
     let (first, last) = (first.day.text(alloc)?, last.day.text(alloc)?);
     let (first, last) = (first.as_str(), last.as_str());
     notes.note(
-        Place::Whole,
+        InputPlace::Whole,
         format_args!(
             "warning: the first row is of {first}, the last of {last}: rows stand in the order of their days, the oldest first"
         ),
@@ -196,7 +196,7 @@ fn warn_of_order<W: Write>(
 }
 
 /// Returns the first and the last of the rows that aren't left out.
-fn ends<'a>(call: &Call<'_>, rows: &'a [Row]) -> (Option<&'a Row>, Option<&'a Row>) {
+fn ends<'a>(call: &Transcript<'_>, rows: &'a [Row]) -> (Option<&'a Row>, Option<&'a Row>) {
     let (mut first, mut last) = (None, None);
     for row in rows {
         if !call.leaves_out(row) {
@@ -211,7 +211,7 @@ fn ends<'a>(call: &Call<'_>, rows: &'a [Row]) -> (Option<&'a Row>, Option<&'a Ro
 fn warn_of_commas<W: Write>(
     alloc: Global,
     notes: &mut Notebook<'_, W>,
-    call: &Call<'_>,
+    call: &Transcript<'_>,
     rows: &[Row],
 ) -> io::Result<()> {
     // A field with a comma stands in quotes.
@@ -235,7 +235,7 @@ fn warn_of_commas<W: Write>(
 
 /// Returns in which columns of a file with these rows numbers have a comma, without those that are
 /// left out. The only error is out of memory.
-fn commas_in(alloc: Global, call: &Call<'_>, rows: &[Row]) -> Result<Commas, AllocError> {
+fn commas_in(alloc: Global, call: &Transcript<'_>, rows: &[Row]) -> Result<Commas, AllocError> {
     let mut records = Records::new(alloc, call.input)?;
     let mut commas = Commas::NONE;
     for row in rows {
@@ -292,7 +292,7 @@ impl fmt::Display for Others {
 fn warn_of_refs<W: Write>(
     alloc: Global,
     notes: &mut Notebook<'_, W>,
-    call: &Call<'_>,
+    call: &Transcript<'_>,
     rows: &[Row],
 ) -> io::Result<()> {
     let mut records = Records::new(alloc, call.input)?;

@@ -9,7 +9,7 @@ use Rattle.lot_output.specs.declared.course.Said.{Said}
 use Rattle.lot_output.specs.declared.course.Said.TheVariants.{Accepted, Fault, Refused, Repeated, Restored, Stopped}
 use Rattle.lot_output.specs.Record.{Keeps}
 use Rattle.lot_output.specs.declared.heard.Heard.{Heard}
-use Rattle.lot_output.specs.declared.record.Kept.{Kept}
+use Rattle.lot_output.specs.declared.record.Record.{Record}
 
 -- how far a run came with what one more line says
 abbrev pub course_with : Option Said → Course → Course
@@ -27,7 +27,7 @@ is_kept most refused (Some Fault) = true
 is_kept most refused (Some Restored) = false
 
 -- a line is kept behind those before it, or left out
-abbrev pub KeepsIf : Bool → List ℕ → Kept → Kept → Type 0
+abbrev pub KeepsIf : Bool → List ℕ → Record → Record → Type 0
 KeepsIf true line before after = Keeps line before after
 KeepsIf false line before after = after ≡ before
 

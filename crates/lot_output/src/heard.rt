@@ -7,7 +7,7 @@ ghost use Rattle.std.specs.Io.KnownBytes.{Keeps, WriteAppends};
 ghost use Rattle.lot_output.specs.Heard.{Hears, ends_line, told_by};
 
 use crate::course::{Course, Said, said_in};
-use crate::record::Kept;
+use crate::record::Record;
 use std::alloc::Global;
 use std::io::{self, ErrorKind, Write};
 
@@ -17,7 +17,7 @@ use std::io::{self, ErrorKind, Write};
 pub struct Heard {
     pub course: Course,
     /// Each with its line end.
-    pub lines: Kept,
+    pub lines: Record,
     /// Where there is one, the last line isn't written whole.
     pub failure: Option<io::Error>,
 }
@@ -41,7 +41,7 @@ impl<W> Witness<W> {
             most,
             heard: Heard {
                 course: Course::BEGUN,
-                lines: Kept::new(alloc),
+                lines: Record::new(alloc),
                 failure: None,
             },
             begins: true,

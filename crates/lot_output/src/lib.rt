@@ -16,4 +16,4 @@ pub use course::Course;
 pub use heard::{Heard, Witness};
 pub use meter::Meter;
 pub use output::Output;
-pub use record::Kept;
+pub use record::Record;

@@ -10,17 +10,17 @@ use std::io::{self, ErrorKind, Write};
 
 /// Bytes that are kept.
 #[derive(Drop)]
-pub struct Kept {
+pub struct Record {
     /// `None` where nothing is kept, or there was no memory for all of it.
     pub bytes: Option<Vec<u8>>,
 }
 
-impl Kept {
+impl Record {
     /// Returns nothing yet.
-    pub fn new(alloc: Global) -> Kept
+    pub fn new(alloc: Global) -> Record
         ensures { held result ≡ Some [] }
     {
-        Kept {
+        Record {
             bytes: Some(Vec::new(alloc)),
         }
     }
@@ -38,7 +38,7 @@ impl Kept {
 }
 
 /// A writer that keeps what is written. It fails where there is no memory.
-impl Write for Kept {
+impl Write for Record {
     fn write(&mut self, buf: &[u8]) -> io::Result<usize>
         ensures bound { WritesAtMost result buf.now }
         ensures bytes { WriteAppends None None result buf.now }

@@ -9,7 +9,7 @@ use Rattle.lot_book.specs.declared.gain.Gain.{Gain}
 use Rattle.lot_book.specs.Currencies.{sum_in}
 use Rattle.lot_book.specs.Sale.{SaleParts}
 use Rattle.lot_book.proofs.SumLemmas.{sum_in-push_here}
-use Rattle.lot_report.specs.declared.gains.Progress.{Progress}
+use Rattle.lot_report.specs.declared.gains.GainSums.{GainSums}
 use Rattle.lot_report.specs.declared.fault.ReportFault.{ReportFault}
 use Rattle.lot_report.specs.declared.fault.ReportFault.TheVariants.{Range, Write, Memory}
 use Rattle.lot_report.specs.declared.line.PrintFault.{PrintFault}
@@ -37,7 +37,7 @@ none_behind empty totals old new result none wrote =
     (one_line (line (codes "no gains")) old new result wrote)
 
 -- the lines behind them, from what is kept
-pub end_is : (sales : List SaleParts) (progress : Progress) → HasTaken sales progress
+pub end_is : (sales : List SaleParts) (progress : GainSums) → HasTaken sales progress
     → IsEnd sales (end_lines progress.is_empty progress.gains.sums.entries)
 end_is sales progress taken =
     (progress.gains.sums.entries, taken.1, ap (λ b. end_lines b progress.gains.sums.entries) taken.0)
@@ -60,7 +60,7 @@ fits_is_wide sales sale currency gain priced =
     ∙ sum_in-push_here (amounts_of sales) (currency, gain.gain) currency (same_text-itself currency))
 
 -- what the addition of its gain says of a priced sale
-pub takes_priced : (sales : List SaleParts) (sale : SaleParts) (currency : List ℕ) (gain : Gain) (progress : Progress)
+pub takes_priced : (sales : List SaleParts) (sale : SaleParts) (currency : List ℕ) (gain : Gain) (progress : GainSums)
     (result : Result (Unit {0}) ReportFault)
     → gained sale ≡ Some (currency, gain)
     → OnOk result (AreSums (amounts_of sales ++ (currency, gain.gain) ∷ []) progress.gains.sums.entries)
@@ -83,7 +83,7 @@ takes_priced sales sale currency gain progress (Err Memory) priced taken wide ra
     fits_is_wide sales sale currency gain priced ∙ wide_is (sum_in (amounts_of sales) currency +ℤ gain.gain) (room refl)
 
 -- an unpriced sale adds nothing
-pub takes_unpriced : (sales : List SaleParts) (sale : SaleParts) (progress : Progress) → gained sale ≡ None
+pub takes_unpriced : (sales : List SaleParts) (sale : SaleParts) (progress : GainSums) → gained sale ≡ None
     → AreSums (amounts_of sales) progress.gains.sums.entries → progress.is_empty ≡ false
     → IsTrue (fits sales sale) × HasTaken (sales ++ sale ∷ []) progress
 takes_unpriced sales sale progress unpriced sums some = (

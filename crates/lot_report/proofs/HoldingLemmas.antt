@@ -7,7 +7,7 @@ use Rattle.lot_cost.specs.declared.lot_key.LotKey.{LotKey}
 use Rattle.lot_book.specs.Currencies.{sum_in}
 use Rattle.lot_report.specs.declared.fault.ReportFault.{ReportFault}
 use Rattle.lot_report.specs.declared.fault.ReportFault.TheVariants.{Range, Write, Memory}
-use Rattle.lot_report.specs.declared.holdings.Progress.{Progress}
+use Rattle.lot_report.specs.declared.holdings.HoldingSums.{HoldingSums}
 use Rattle.lot_report.specs.declared.holdings.ValuedHolding.{ValuedHolding}
 use Rattle.lot_report.specs.declared.line.PrintFault.{PrintFault}
 use Rattle.lot_report.specs.declared.lot.Valuation.{Valuation}
@@ -134,7 +134,7 @@ fits_is rows row cost value is so =
     && stay_wide (values_of rows ++ value_of row.holding.lot row.valuation row.holding.units) (value_of row.holding.lot row.valuation row.holding.units)) is
     ∙ ap (λ v. stay_wide (costs_of rows ++ cost) cost && stay_wide (values_of rows ++ v) v) so
 
-kept_is : (rows : List ValuedHolding) (row : ValuedHolding) (cost value : List (List ℕ × ℤ)) (progress : Progress)
+kept_is : (rows : List ValuedHolding) (row : ValuedHolding) (cost value : List (List ℕ × ℤ)) (progress : HoldingSums)
     → cost_of row.holding.lot row.holding.units ≡ cost → value_of row.holding.lot row.valuation row.holding.units ≡ value
     → progress.is_empty ≡ false
     → AreSums (costs_of rows ++ cost) progress.costs.sums.entries → AreSums (values_of rows ++ value) progress.values.sums.entries
@@ -146,7 +146,7 @@ kept_is rows row cost value progress is so some costs values = (
 )
 
 -- units in a lot
-pub row_counts : (rows : List ValuedHolding) (row : ValuedHolding) (lot : LotKey) (price : Option ℕ) (progress : Progress)
+pub row_counts : (rows : List ValuedHolding) (row : ValuedHolding) (lot : LotKey) (price : Option ℕ) (progress : HoldingSums)
     (result : Result (Unit {0}) ReportFault)
     → row.holding.lot ≡ Some lot → price ≡ price_of row.valuation
     → CountsBoth (costs_of rows) (values_of rows) (cost_of (Some lot) row.holding.units) (value_at price lot row.holding.units)
@@ -173,7 +173,7 @@ row_counts rows row lot price progress result in_lot at_price counts some =
     at (Err Memory) fit = fits_is rows row _ _ is so ∙ fit
 
 -- plain units add nothing
-pub plain_counts : (rows : List ValuedHolding) (row : ValuedHolding) (progress : Progress)
+pub plain_counts : (rows : List ValuedHolding) (row : ValuedHolding) (progress : HoldingSums)
     → row.holding.lot ≡ None → AreSums (costs_of rows) progress.costs.sums.entries → AreSums (values_of rows) progress.values.sums.entries
     → progress.is_empty ≡ false → IsTrue (fits rows row) × HasTaken (rows ++ row ∷ []) progress
 plain_counts rows row progress plain costs values some =
@@ -188,7 +188,7 @@ plain_counts rows row progress plain costs values some =
 -- ---- The end.
 
 -- the lines behind the rows, from what is kept
-pub end_is : (rows : List ValuedHolding) (progress : Progress) → HasTaken rows progress
+pub end_is : (rows : List ValuedHolding) (progress : HoldingSums) → HasTaken rows progress
     → IsEnd rows (end_lines progress.is_empty progress.costs.sums.entries progress.values.sums.entries)
 end_is rows progress taken = (
   progress.costs.sums.entries,

@@ -6,7 +6,7 @@ use Rattle.lot_book.specs.declared.holding.Holding.{Holding}
 use Rattle.lot_report.specs.declared.fault.ReportFault.{ReportFault}
 use Rattle.lot_report.specs.declared.fault.ReportFault.TheVariants.{Range, Write, Memory}
 use Rattle.lot_report.specs.declared.fault.RowFault.TheVariants.{Report}
-use Rattle.lot_report.specs.declared.holdings.Progress.{Progress}
+use Rattle.lot_report.specs.declared.holdings.HoldingSums.{HoldingSums}
 use Rattle.lot_report.specs.declared.holdings.ValuedHolding.{ValuedHolding}
 use Rattle.lot_report.specs.declared.line.PrintFault.{PrintFault}
 use Rattle.lot_report.specs.Fed.{AreLinesBefore, joined}
@@ -18,7 +18,7 @@ use Rattle.lot_report.proofs.FedLemmas.{fit_more, report_cut, report_ends, row_e
 use Rattle.lot_report.proofs.HoldingLemmas.{end_is}
 
 -- some rows were taken and written, and these are left
-abbrev pub SoFar : List Holding → List Holding → Progress → Option (List ℕ) → Option (List ℕ) → Type 0
+abbrev pub SoFar : List Holding → List Holding → HoldingSums → Option (List ℕ) → Option (List ℕ) → Type 0
 SoFar rows left progress old new =
     (before : List ValuedHolding) × (unvalued rows ≡ before ++ unvalued left) × AllFit [] before × HasTaken before progress
     × Appends old new (rows_text before)
@@ -32,7 +32,7 @@ split_at : (rows left rest : List Holding) (holding : Holding) (before : List Va
 split_at rows left rest holding before split is = split ∙ ap (λ xs. before ++ unvalued xs) is
 
 -- a row that was taken
-pub row_taken : (rows left rest : List Holding) (holding : Holding) (progress next : Progress) (old mid new : Option (List ℕ)) (done : Unit {0})
+pub row_taken : (rows left rest : List Holding) (holding : Holding) (progress next : HoldingSums) (old mid new : Option (List ℕ)) (done : Unit {0})
     → SoFar rows left progress old mid → left ≡ holding ∷ rest
     → ((before : List ValuedHolding) → HasTaken before progress → TakesHolding before (unvalued_row holding) next mid new (Ok done))
     → SoFar rows rest next old new
@@ -56,7 +56,7 @@ text_more_row : (before : List ValuedHolding) (row : ValuedHolding) → rows_tex
 text_more_row before row = text_more (λ (r : ValuedHolding). joined (row_lines r)) before row
 
 -- a row at which the report ends
-pub row_stops : (rows left rest : List Holding) (holding : Holding) (progress next : Progress) (old mid new : Option (List ℕ)) (fault : ReportFault)
+pub row_stops : (rows left rest : List Holding) (holding : Holding) (progress next : HoldingSums) (old mid new : Option (List ℕ)) (fault : ReportFault)
     → SoFar rows left progress old mid → left ≡ holding ∷ rest
     → ((before : List ValuedHolding) → HasTaken before progress → TakesHolding before (unvalued_row holding) next mid new (Err fault))
     → WritesReport (unvalued rows) old new (Err fault)
@@ -99,19 +99,19 @@ row_stops rows left rest holding progress next old mid new Memory (before, split
 all_taken : (rows left : List Holding) (before : List ValuedHolding) → unvalued rows ≡ before ++ unvalued left → left ≡ [] → before ≡ unvalued rows
 all_taken rows left before split is = sym (split ∙ ap (λ xs. before ++ unvalued xs) is ∙ append-nil before)
 
-abbrev Lines : Progress → Option (List ℕ) → Option (List ℕ) → Result (Unit {0}) PrintFault → Type 0
+abbrev Lines : HoldingSums → Option (List ℕ) → Option (List ℕ) → Result (Unit {0}) PrintFault → Type 0
 Lines progress old new result =
     WritesEach (λ (text : List ℕ). text) (end_lines progress.is_empty progress.costs.sums.entries progress.values.sums.entries) old new result
 
 -- it is written whole
-pub whole_written : (rows left : List Holding) (progress : Progress) (old mid new : Option (List ℕ)) (done : Unit {0})
+pub whole_written : (rows left : List Holding) (progress : HoldingSums) (old mid new : Option (List ℕ)) (done : Unit {0})
     → SoFar rows left progress old mid → left ≡ [] → Lines progress mid new (Ok done) → WritesReport (unvalued rows) old new (Ok done)
 whole_written rows left progress old mid new done (before, split, fit, taken, written) is lines =
     subst (λ xs. WritesReport xs old new (Ok done)) (all_taken rows left before split is)
     (report_ends row_lines fits IsEnd before _ old mid new done fit (end_is before progress taken) written lines)
 
 -- what stands behind the rows isn't
-pub whole_cut : (rows left : List Holding) (progress : Progress) (old mid new : Option (List ℕ)) (fault : PrintFault)
+pub whole_cut : (rows left : List Holding) (progress : HoldingSums) (old mid new : Option (List ℕ)) (fault : PrintFault)
     → SoFar rows left progress old mid → left ≡ [] → Lines progress mid new (Err fault) → WritesReport (unvalued rows) old new (Err (report_fault fault))
 whole_cut rows left progress old mid new PrintFault.Write (before, split, fit, taken, written) is lines =
     let (end, so, part, (byte, more, proper), now) = report_cut row_lines fits IsEnd before _ old mid new PrintFault.Write (end_is before progress taken) written lines in

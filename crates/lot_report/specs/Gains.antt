@@ -9,7 +9,7 @@ use Rattle.lot_book.specs.Gain.{currency_of, gain_of}
 use Rattle.lot_book.specs.Sale.{SaleParts}
 use Rattle.lot_report.specs.declared.fault.RowFault.{RowFault}
 use Rattle.lot_report.specs.declared.gains.Gains.{Gains}
-use Rattle.lot_report.specs.declared.gains.Progress.{Progress}
+use Rattle.lot_report.specs.declared.gains.GainSums.{GainSums}
 use Rattle.lot_report.specs.declared.fault.ReportFault.{ReportFault}
 use Rattle.lot_report.specs.declared.lot.Valuation.TheVariants.{Unasked}
 use Rattle.lot_report.specs.Fed.{CountsRow, EndsReport, GrowsByRow, IsWhole, TakesRow, text_of}
@@ -85,15 +85,15 @@ IsGains sales text = IsWhole sale_lines fits IsEnd sales text
 -- ---- Reports that are fed sale by sale.
 
 -- what a report keeps that has taken these sales and no other
-abbrev pub HasTaken : List SaleParts → Progress → Type 0
+abbrev pub HasTaken : List SaleParts → GainSums → Type 0
 HasTaken sales progress = (progress.is_empty ≡ is_nil sales) × AreSums (amounts_of sales) progress.gains.sums.entries
 
 -- what becomes of it with the gain of one more sale
-abbrev pub CountsSale : List SaleParts → SaleParts → Progress → Result (Unit {0}) ReportFault → Type 0
+abbrev pub CountsSale : List SaleParts → SaleParts → GainSums → Result (Unit {0}) ReportFault → Type 0
 CountsSale sales sale progress result = CountsRow fits HasTaken sales sale progress result
 
 -- the same, and what is written of the sale
-abbrev pub TakesSale : List SaleParts → SaleParts → Progress → Option (List ℕ) → Option (List ℕ)
+abbrev pub TakesSale : List SaleParts → SaleParts → GainSums → Option (List ℕ) → Option (List ℕ)
     → Result (Unit {0}) ReportFault → Type 0
 TakesSale sales sale progress old new result = TakesRow sale_lines fits HasTaken sales sale progress old new result
 

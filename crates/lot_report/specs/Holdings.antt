@@ -7,7 +7,7 @@ use Rattle.lot_report.specs.declared.fault.ReportFault.{ReportFault}
 use Rattle.lot_report.specs.declared.fault.ReportFault.TheVariants.{Range, Write, Memory}
 use Rattle.lot_report.specs.declared.fault.RowFault.{RowFault}
 use Rattle.lot_report.specs.declared.holdings.Holdings.{Holdings}
-use Rattle.lot_report.specs.declared.holdings.Progress.{Progress}
+use Rattle.lot_report.specs.declared.holdings.HoldingSums.{HoldingSums}
 use Rattle.lot_report.specs.declared.holdings.ValuedHolding.{ValuedHolding}
 use Rattle.lot_report.specs.declared.lot.Valuation.{Valuation}
 use Rattle.lot_report.specs.declared.lot.Valuation.TheVariants.{Unasked}
@@ -89,7 +89,7 @@ IsReport rows text = IsWhole row_lines fits IsEnd rows text
 -- ---- Reports that are fed row by row.
 
 -- what a report keeps that has taken these rows and no other
-abbrev pub HasTaken : List ValuedHolding → Progress → Type 0
+abbrev pub HasTaken : List ValuedHolding → HoldingSums → Type 0
 HasTaken rows progress =
     (progress.is_empty ≡ is_nil rows) × AreSums (costs_of rows) progress.costs.sums.entries × AreSums (values_of rows) progress.values.sums.entries
 
@@ -106,11 +106,11 @@ CountsBoth costs values cost value kept_costs kept_values (Err Memory) =
     IsTrue (stay_wide (costs ++ cost) cost && stay_wide (values ++ value) value)
 
 -- what becomes of it with one more row
-abbrev pub CountsHolding : List ValuedHolding → ValuedHolding → Progress → Result (Unit {0}) ReportFault → Type 0
+abbrev pub CountsHolding : List ValuedHolding → ValuedHolding → HoldingSums → Result (Unit {0}) ReportFault → Type 0
 CountsHolding rows row progress result = CountsRow fits HasTaken rows row progress result
 
 -- the same, and what is written of the row
-abbrev pub TakesHolding : List ValuedHolding → ValuedHolding → Progress → Option (List ℕ) → Option (List ℕ)
+abbrev pub TakesHolding : List ValuedHolding → ValuedHolding → HoldingSums → Option (List ℕ) → Option (List ℕ)
     → Result (Unit {0}) ReportFault → Type 0
 TakesHolding rows row progress old new result = TakesRow row_lines fits HasTaken rows row progress old new result
 

@@ -23,7 +23,7 @@ use std::fmt;
 #[derive(Drop)]
 pub struct Gains {
     /// None after a fault.
-    progress: Option<Progress>,
+    progress: Option<GainSums>,
 }
 
 impl Gains {
@@ -33,7 +33,7 @@ impl Gains {
         ensures spent { IsFalse (is_spent result) }
     {
         Gains {
-            progress: Some(Progress::new(alloc)),
+            progress: Some(GainSums::new(alloc)),
         }
     }
 
@@ -88,18 +88,18 @@ impl Gains {
 
 /// What the sales so far come to.
 #[derive(Drop)]
-struct Progress {
+struct GainSums {
     alloc: Global,
     is_empty: bool,
     gains: Totals,
 }
 
-impl Progress {
+impl GainSums {
     /// Before the first sale.
-    fn new(alloc: Global) -> Progress
+    fn new(alloc: Global) -> GainSums
         ensures { HasTaken [] result }
     {
-        Progress {
+        GainSums {
             alloc,
             is_empty: true,
             gains: Totals::new(alloc),

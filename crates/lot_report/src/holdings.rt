@@ -31,7 +31,7 @@ pub struct ValuedHolding {
 #[derive(Drop)]
 pub struct Holdings {
     /// None after a fault.
-    progress: Option<Progress>,
+    progress: Option<HoldingSums>,
 }
 
 impl Holdings {
@@ -41,7 +41,7 @@ impl Holdings {
         ensures spent { IsFalse (is_spent result) }
     {
         Holdings {
-            progress: Some(Progress::new(alloc)),
+            progress: Some(HoldingSums::new(alloc)),
         }
     }
 
@@ -114,7 +114,7 @@ pub fn print_holdings<W: CountedWrite>(
     ensures cause { IsErrOf result ReportFault.Write → HasFailed (W.calls writer.new) }
     ensures none_failed { OnOk result (NoneFailed (W.calls writer.old) (W.calls writer.new)) }
 {
-    let mut progress = Progress::new(alloc);
+    let mut progress = HoldingSums::new(alloc);
     for holding in rows {
         let row = ValuedHolding {
             holding,
@@ -127,19 +127,19 @@ pub fn print_holdings<W: CountedWrite>(
 
 /// What the rows so far come to.
 #[derive(Drop)]
-struct Progress {
+struct HoldingSums {
     alloc: Global,
     is_empty: bool,
     costs: Totals,
     values: Totals,
 }
 
-impl Progress {
+impl HoldingSums {
     /// Before the first row.
-    fn new(alloc: Global) -> Progress
+    fn new(alloc: Global) -> HoldingSums
         ensures { HasTaken [] result }
     {
-        Progress {
+        HoldingSums {
             alloc,
             is_empty: true,
             costs: Totals::new(alloc),

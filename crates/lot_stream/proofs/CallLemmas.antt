@@ -8,7 +8,7 @@ use Rattle.std.specs.declared.io.Error.{Error}
 use Rattle.lot_io.proofs.ReadLemmas.{gives, gives_none}
 use Rattle.lot_io.specs.Reads.{Counts, CountsRead, GrowsBy, IsCall, ReadCalls, ReadsMade, ends}
 use Rattle.lot_stream.specs.Input.{EndsFor, EndsWell, NoneFailed, TakesIn, longest_input, most_calls}
-use Rattle.lot_stream.specs.declared.input.Progress.TheVariants.{Ended, Goes}
+use Rattle.lot_stream.specs.declared.input.Intake.TheVariants.{Ended, Goes}
 use Rattle.lot_stream.specs.declared.input.SlurpFault.{SlurpFault}
 
 -- what calls come to together

@@ -4,8 +4,8 @@ use Rattle.std.specs.IoError.{error_kind}
 use Rattle.std.specs.declared.io.Error.{Error}
 use Rattle.std.specs.declared.io.ErrorKind.{ErrorKind}
 use Rattle.lot_io.specs.Reads.{Counts, ReadCalls, ReadsMade}
-use Rattle.lot_stream.specs.declared.input.Progress.{Progress}
-use Rattle.lot_stream.specs.declared.input.Progress.TheVariants.{Ended, Goes}
+use Rattle.lot_stream.specs.declared.input.Intake.{Intake}
+use Rattle.lot_stream.specs.declared.input.Intake.TheVariants.{Ended, Goes}
 use Rattle.lot_stream.specs.declared.input.SlurpFault.{SlurpFault}
 use Rattle.lot_stream.specs.declared.input.SlurpFault.TheVariants.{Read, TooLong, Memory}
 
@@ -26,7 +26,7 @@ chunk_size = 65536
 -- A call that gave nothing ends the input. One that was interrupted is tried again, and one that failed otherwise is a
 -- fault of the reader. The bytes that it gave are kept, where there is memory for them; they are too many if that is
 -- more than the limit, and not otherwise.
-abbrev pub TakesIn : List ℕ → List ℕ → Result ℕ Error → List ℕ → Result Progress SlurpFault → Type 0
+abbrev pub TakesIn : List ℕ → List ℕ → Result ℕ Error → List ℕ → Result Intake SlurpFault → Type 0
 TakesIn bytes chunk (Ok count) after (Ok Ended) = (count ≡ 0) × (after ≡ bytes)
 TakesIn bytes chunk (Ok count) after (Ok Goes) =
     (0 < count) × (length bytes + count ≤ longest_input) × (after ≡ bytes ++ take count chunk)

@@ -77,8 +77,8 @@ pub fn slurp<R: CountedRead>(alloc: Global, reader: &mut R) -> Result<Vec<u8>, S
     for _made in 0..CALLS {
         let outcome = reader.read_counted(chunk.as_mut_slice());
         match take_in(&mut bytes, &chunk, outcome)? {
-            Progress::Ended => return Ok(bytes),
-            Progress::Goes => {}
+            Intake::Ended => return Ok(bytes),
+            Intake::Goes => {}
         }
     }
     Err(SlurpFault::Read)
@@ -92,7 +92,7 @@ fn zeros(alloc: Global, count: usize) -> Result<Vec<u8>, AllocError>
 }
 
 /// Whether a reader is at its end.
-enum Progress {
+enum Intake {
     Ended,
     Goes,
 }
@@ -105,18 +105,18 @@ fn take_in(
     bytes: &mut Vec<u8>,
     chunk: &[u8],
     outcome: io::Result<usize>,
-) -> Result<Progress, SlurpFault>
+) -> Result<Intake, SlurpFault>
     requires count { ReadsAtMost outcome chunk.now }
     requires small { vec_len bytes.old ≤ longest_input }
     ensures { TakesIn bytes.old.items chunk.now outcome bytes.new.items result }
 {
     match outcome {
-        Ok(0) => Ok(Progress::Ended),
+        Ok(0) => Ok(Intake::Ended),
         Ok(count) => {
             append(bytes, &chunk[..count])?;
-            Ok(Progress::Goes)
+            Ok(Intake::Goes)
         }
-        Err(error) if error.kind() == ErrorKind::Interrupted => Ok(Progress::Goes),
+        Err(error) if error.kind() == ErrorKind::Interrupted => Ok(Intake::Goes),
         Err(_) => Err(SlurpFault::Read),
     }
 }

@@ -6,13 +6,13 @@ use sqlite::{Alter, Connection};
 
 /// What was looked at last.
 #[derive(Drop)]
-struct Place {
+struct LastLook {
     spot: Option<Spot>,
     /// How many of its rows were looked at.
     rows: i64,
 }
 
-impl Watch for Place {
+impl Watch for LastLook {
     fn look(&mut self, spot: Spot) {
         self.spot = Some(spot);
         self.rows = 0;
@@ -26,7 +26,7 @@ impl Watch for Place {
 /// Says on standard error where the book of that path is damaged, with a connection to it. The book
 /// is judged once more, and what is looked at then is followed.
 pub fn say_where<S: Alter>(rt: &HostRuntime, path: &str, conn: &mut Connection<S>) {
-    let mut place = Place {
+    let mut place = LastLook {
         spot: None,
         rows: 0,
     };

@@ -19,8 +19,8 @@ use Rattle.lot_walk.specs.Prices.{AreAllPriceRows, ArePrices, ArePricesAt, HasGi
 use Rattle.lot_walk.specs.Step.{GivesOfRows, IsPrefix, StepGives}
 use Rattle.lot_walk.specs.declared.price.PairPrice.{PairPrice}
 use Rattle.lot_walk.specs.declared.prices.PricesPlace.{PricesPlace}
-use Rattle.lot_walk.specs.declared.prices.Progress.{Progress}
-use Rattle.lot_walk.specs.declared.prices.Progress.TheVariants.{Gives, Passed}
+use Rattle.lot_walk.specs.declared.prices.PriceStep.{PriceStep}
+use Rattle.lot_walk.specs.declared.prices.PriceStep.TheVariants.{Gives, Passed}
 use Rattle.lot_walk.proofs.CursorLemmas.{next_left, none_left, suffix_up, unmapped_up}
 use Rattle.lot_walk.proofs.LastLemmas.{AreUp, last_rows-next, last_rows-pair, row_cmp}
 use Rattle.lot_rows.proofs.StateLemmas.{survives_same}
@@ -35,7 +35,7 @@ held_up s tables has =
     rows_up tables.price (unmapped_up (λ a b. key_order 3 a b ≡ Less) price_cells tables.price has.1.held.1.1.1.1.0.rises)
 
 -- what waits behind a row, and what is given by it
-abbrev Carries : List PriceRow → List PriceRow → List PriceRow → Progress → Type 0
+abbrev Carries : List PriceRow → List PriceRow → List PriceRow → PriceStep → Type 0
 Carries done before after Passed = (more : List PriceRow) × (more ++ after ≡ done ++ before) × (last_rows after ≡ last_rows before)
 Carries done before after (Gives None) = ⊥
 Carries done before after (Gives (Some price)) =
@@ -73,7 +73,7 @@ module _ (tables : Tables) (rising : AreUp tables.price) (day : ℤ) where
   -- ---- a row more
 
   -- what a place has given once it is behind the row
-  abbrev Comes : PricesPlace → List PairPrice → Progress → Type 0
+  abbrev Comes : PricesPlace → List PairPrice → PriceStep → Type 0
   Comes after given Passed = HasGiven after tables day given
   Comes after given (Gives None) = ⊥
   Comes after given (Gives (Some price)) = HasGiven after tables day (given ++ price ∷ [])
@@ -104,7 +104,7 @@ module _ (tables : Tables) (rising : AreUp tables.price) (day : ℤ) where
         rows = ap (λ xs. given' ++ map price_of (last_rows xs)) is ∙ rows ∙ ap (λ d. prices_by d tables.price) (sym on);
       }
 
-      by : (progress : Progress) (then now : List PriceRow) → waiting before has.left ≡ then → waiting after rest ≡ now → Carries has.done then now progress
+      by : (progress : PriceStep) (then now : List PriceRow) → waiting before has.left ≡ then → waiting after rest ≡ now → Carries has.done then now progress
           → Comes after given progress
       by Passed then now was is c =
           made given c.0 now is (c.1 ∙ ap (λ xs. has.done ++ xs) (sym was) ∙ has.split)
@@ -179,11 +179,11 @@ module _ (before after : PricesPlace) (old new : State) (reading : before.is_pas
         let next = next_row before tables day given was row after.rows behind in
         comes tables rising day before after given row was next.0 next.1 behind (past ∙ reading) on last
 
-    comes_to : (progress : Progress) → progress ≡ progress_of before.day before.last row → HasCleanDisk new → (tables : Tables) → Has old tables
+    comes_to : (progress : PriceStep) → progress ≡ progress_of before.day before.last row → HasCleanDisk new → (tables : Tables) → Has old tables
         → (rising : AreUp tables.price) (day : ℤ) (given : List PairPrice) → HasGiven before tables day given → Comes tables rising day after given progress
     comes_to progress is clean tables has rising day given was = subst (Comes tables rising day after given) (sym is) (come clean tables has rising day given was)
 
-    pub row_read : (progress : Progress) → progress ≡ progress_of before.day before.last row → Progresses before after old new (Ok progress)
+    pub row_read : (progress : PriceStep) → progress ≡ progress_of before.day before.last row → Progresses before after old new (Ok progress)
     row_read Passed is = record {
       keeps = λ clean tables entries has book stand day given was. comes_to Passed is clean tables has (stood_up tables entries stand) day given was;
       same = reads.same;
@@ -209,7 +209,7 @@ module _ (before after : PricesPlace) (old new : State) (reading : before.is_pas
         good_price None = tt
         good_price (Some price) = tt
 
-    pub row_read_over : (progress : Progress) → progress ≡ progress_of before.day before.last row → ProgressesOverRows before after old new (Ok progress)
+    pub row_read_over : (progress : PriceStep) → progress ≡ progress_of before.day before.last row → ProgressesOverRows before after old new (Ok progress)
     row_read_over Passed is = λ clean tables has day given was. comes_to Passed is clean tables has (held_up old tables has) day given was
     row_read_over (Gives None) is = λ clean tables has day given was. absurd (comes_to (Gives None) is clean tables has (held_up old tables has) day given was)
     row_read_over (Gives (Some price)) is = λ clean tables has day given was. comes_to (Gives (Some price)) is clean tables has (held_up old tables has) day given was

@@ -20,8 +20,8 @@ use Rattle.lot_table.specs.declared.fault.Fault.TheVariants.{Damaged, Device}
 use Rattle.lot_walk.specs.Place.{KeepsRows, Went}
 use Rattle.lot_walk.specs.Step.{StaysOrGoesBack, Steps, StepsOverRows}
 use Rattle.lot_walk.specs.declared.prices.PricesPlace.{PricesPlace}
-use Rattle.lot_walk.specs.declared.prices.Progress.{Progress}
-use Rattle.lot_walk.specs.declared.prices.Progress.TheVariants.{Gives, Passed}
+use Rattle.lot_walk.specs.declared.prices.PriceStep.{PriceStep}
+use Rattle.lot_walk.specs.declared.prices.PriceStep.TheVariants.{Gives, Passed}
 use Rattle.lot_walk.specs.declared.price.PairPrice.{PairPrice}
 
 -- the order of pairs of base and quote, by their bytes
@@ -126,11 +126,11 @@ abbrev pub last_after : ℤ → Option PriceRow → PriceRow → Option PriceRow
 last_after day last row = if is_by day row then Some row else last
 
 -- a row waits for the next of another pair
-abbrev pub before_row : Option PriceRow → PriceRow → Progress
+abbrev pub before_row : Option PriceRow → PriceRow → PriceStep
 before_row None row = Passed
 before_row (Some last) row = if is_of_pair last row then Passed else Gives (Some (price_of last))
 
-abbrev pub progress_of : ℤ → Option PriceRow → PriceRow → Progress
+abbrev pub progress_of : ℤ → Option PriceRow → PriceRow → PriceStep
 progress_of day last row = if is_by day row then before_row last row else Passed
 
 -- a step that gives a price, or none more
@@ -138,7 +138,7 @@ abbrev pub StepsOver : PricesPlace → PricesPlace → State → State → Resul
 StepsOver = Steps shown_price IsAnyPrice ArePricesAt IsBehindPrices Damaged Device
 
 -- what comes of reading one more row
-abbrev pub Progresses : PricesPlace → PricesPlace → State → State → Result Progress Fault → Type 0
+abbrev pub Progresses : PricesPlace → PricesPlace → State → State → Result PriceStep Fault → Type 0
 Progresses before after old new (Ok Passed) = Went IsBehindPrices before after old new
 Progresses before after old new (Ok (Gives found)) = StepsOver before after old new (Ok found)
 Progresses before after old new (Err fault) = StepsOver before after old new (Err fault) × (HasCleanDisk new → StaysOrGoesBack old new)
@@ -147,7 +147,7 @@ Progresses before after old new (Err fault) = StepsOver before after old new (Er
 abbrev pub GivesPrices : PricesPlace → PricesPlace → State → State → Result (Option PairPrice) Fault → Type 0
 GivesPrices = StepsOverRows shown_price AreAllPriceRows IsBehindPriceRows
 
-abbrev pub ProgressesOverRows : PricesPlace → PricesPlace → State → State → Result Progress Fault → Type 0
+abbrev pub ProgressesOverRows : PricesPlace → PricesPlace → State → State → Result PriceStep Fault → Type 0
 ProgressesOverRows before after old new (Ok Passed) = KeepsRows IsBehindPriceRows before after old new
 ProgressesOverRows before after old new (Ok (Gives found)) = GivesPrices before after old new (Ok found)
 ProgressesOverRows before after old new (Err fault) = Unit {0}

@@ -26,7 +26,7 @@ pub struct PricesPlace {
 
 /// How far a place comes with one more row.
 #[derive(Drop)]
-enum Progress {
+enum PriceStep {
     /// No price is known by it.
     Passed,
     /// The next price is known, or that there is none more.
@@ -59,8 +59,8 @@ impl Place for PricesPlace {
     ) -> Result<Option<PairPrice>, Fault> {
         'rows: for _ in 0..u64::MAX {
             match self.step(conn)? {
-                Progress::Passed => {}
-                Progress::Gives(found) => return Ok(found),
+                PriceStep::Passed => {}
+                PriceStep::Gives(found) => return Ok(found),
             }
         }
         Err(Fault::Memory)
@@ -82,7 +82,7 @@ impl PricesPlace {
     }
 
     /// Reads one more row, if one is left.
-    fn step<S: Alter>(&mut self, conn: &mut Connection<S>) -> Result<Progress, Fault>
+    fn step<S: Alter>(&mut self, conn: &mut Connection<S>) -> Result<PriceStep, Fault>
         ensures progress { Progresses self.old self.new (state S.Store conn.old)
             (state S.Store conn.new) result }
         ensures rows { ProgressesOverRows self.old self.new (state S.Store conn.old)
@@ -101,7 +101,7 @@ impl PricesPlace {
     }
 
     /// Goes behind a row, which is the next.
-    fn pass(&mut self, row: PriceRow) -> Progress
+    fn pass(&mut self, row: PriceRow) -> PriceStep
         ensures day { self.new.day ≡ self.old.day }
         ensures rows { self.new.rows ≡ self.old.rows }
         ensures past { self.new.is_past_last ≡ self.old.is_past_last }
@@ -109,7 +109,7 @@ impl PricesPlace {
         ensures progress { result ≡ progress_of self.old.day self.old.last row }
     {
         if row.day > self.day {
-            return Progress::Passed;
+            return PriceStep::Passed;
         }
         let is_next_pair = match &self.last {
             Some(last) => !is_of_pair(last, &row),
@@ -117,21 +117,21 @@ impl PricesPlace {
         };
         let last = self.last.replace(row);
         if is_next_pair {
-            Progress::Gives(last.map(price_of))
+            PriceStep::Gives(last.map(price_of))
         } else {
-            Progress::Passed
+            PriceStep::Passed
         }
     }
 
     /// Gives the last price, if it isn't given yet.
-    fn give_last(&mut self) -> Progress
+    fn give_last(&mut self) -> PriceStep
         ensures day { self.new.day ≡ self.old.day }
         ensures rows { self.new.rows ≡ self.old.rows }
         ensures past { self.new.is_past_last ≡ self.old.is_past_last }
         ensures last { self.new.last ≡ None }
-        ensures progress { result ≡ Progress.Gives (option_map price_of self.old.last) }
+        ensures progress { result ≡ PriceStep.Gives (option_map price_of self.old.last) }
     {
-        Progress::Gives(self.last.take().map(price_of))
+        PriceStep::Gives(self.last.take().map(price_of))
     }
 }
 

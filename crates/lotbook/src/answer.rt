@@ -5,7 +5,7 @@ ghost use Rattle.std.specs.Prelude.{◌≡◌, None, false};
 use crate::keeper::{Keep, Keeper};
 use lot_book::Verdict;
 use lot_call::{
-    Call, Fate, Standing, Watched, explain, say_aside, say_export_fault, say_fate, say_taken,
+    Call, Fate, FileKind, Watched, explain, say_aside, say_export_fault, say_fate, say_taken,
     say_unwritten, sum_up,
 };
 use lot_cli::{
@@ -15,7 +15,7 @@ use lot_cli::{
 };
 use lot_command::Key;
 use lot_completion::{Note, Watch};
-use lot_output::{Heard, Kept, Meter, Output, Witness};
+use lot_output::{Heard, Meter, Output, Record, Witness};
 use lot_rounding::Asked;
 use lot_table::Queryable;
 use lot_verify::say_where;
@@ -82,7 +82,7 @@ fn do_quietly<S: Alter>(
 /// Says on standard error what there is to say of what was read and written, and of what was watched.
 fn speak<S: Alter>(
     call: &Call<'_>,
-    read: &Kept,
+    read: &Record,
     heard: &Heard,
     watched: &mut Watched,
     halt: Option<Halt>,
@@ -116,7 +116,7 @@ fn speak<S: Alter>(
 }
 
 /// Says what is wrong with an export that was imported by a profile.
-fn say_faulty_export(call: &Call<'_>, read: &Kept, fault: ExportFault) {
+fn say_faulty_export(call: &Call<'_>, read: &Record, fault: ExportFault) {
     if let (Action::ImportBy(asked), Some(bytes)) = (call.action, &read.bytes) {
         say_export_fault(call.rt, &asked.profile, fault, bytes.as_slice());
     }
@@ -128,14 +128,14 @@ pub fn advise<S: Alter>(call: &Call<'_>, path: &str, halt: Halt, conn: &mut Conn
     let rt = call.rt;
     let standing = match halt {
         Halt::Adopt(AdoptFault::OlderEdition) | Halt::Verify(VerifyFault::OlderEdition) => {
-            Some(Standing::OlderBook)
+            Some(FileKind::OlderBook)
         }
         Halt::Adopt(AdoptFault::NotABook)
         | Halt::Migrate(MigrateFault::NotABook)
-        | Halt::Verify(VerifyFault::NotABook) => Standing::of_no_book(rt, path, conn),
+        | Halt::Verify(VerifyFault::NotABook) => FileKind::of_no_book(rt, path, conn),
         Halt::Create(CreateFault::NotABook)
         | Halt::Restore(RestoreFault::Book(CreateFault::NotABook)) => {
-            Standing::of_database(conn)
+            FileKind::of_database(conn)
         }
         Halt::Verify(VerifyFault::Damaged) => return say_where(rt, path, conn),
         Halt::Restore(RestoreFault::Text(CommandFault::Dump(DumpFault::NotADump { line }))) => {

@@ -8,7 +8,7 @@ ghost use Rattle.lot_io.specs.Reads.{CountsRead};
 ghost use Rattle.lot_io.specs.Reader.{counts_of, reader_of};
 
 use lot_io::{CountedRead, CountedReader};
-use lot_output::Kept;
+use lot_output::Record;
 use std::alloc::Global;
 use std::io::{self, Read};
 
@@ -29,7 +29,7 @@ pub enum Keep {
 #[derive(Drop)]
 pub struct Keeper<R> {
     reader: CountedReader<R>,
-    pub kept: Kept,
+    pub kept: Record,
     /// What is set aside.
     room: Option<Vec<u8>>,
 }
@@ -45,8 +45,8 @@ impl<R> Keeper<R> {
             Keep::Nothing => None,
         };
         let kept = match keep {
-            Keep::TakenBack if room.is_some() => Kept::new(alloc),
-            Keep::Nothing | Keep::TakenBack => Kept { bytes: None },
+            Keep::TakenBack if room.is_some() => Record::new(alloc),
+            Keep::Nothing | Keep::TakenBack => Record { bytes: None },
         };
         Keeper {
             reader: CountedReader::new(reader),
@@ -88,7 +88,7 @@ impl<R: Read> CountedRead for Keeper<R> {
         ensures none { IsNone (held self.old.kept) → IsNone (held self.new.kept) }
     {
         if self.kept.bytes.is_some() {
-            self.kept = Kept { bytes: Some(bytes) };
+            self.kept = Record { bytes: Some(bytes) };
         }
     }
 }

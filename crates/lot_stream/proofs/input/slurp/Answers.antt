@@ -5,7 +5,7 @@ use Rattle.std.specs.Io.KnownBytes.{ReadConsumes}
 use Rattle.std.specs.Prelude.{Ok}
 use Rattle.lot_io.specs.Reads.{Counts}
 use Rattle.lot_stream.specs.Input.{EndsWell, TakesIn}
-use Rattle.lot_stream.specs.declared.input.Progress.{Progress}
+use Rattle.lot_stream.specs.declared.input.Intake.{Intake}
 use Rattle.lot_stream.specs.declared.input.SlurpFault.{SlurpFault}
 use Rattle.lot_stream.proofs.CallLemmas.{bytes_go, call_ends, call_goes, call_stops, called_out, for_fault, no_room, none_made, so_far}
 use Rattle.lot_stream.proofs.InputLemmas.{at_fault, fault_taken, written_back}
@@ -45,7 +45,7 @@ returns-in-Ended-clause-calls g c =
     (call_ends (g.R.CountedRead.calls c.args.reader.now) (g.R.CountedRead.calls c.loop-made.reader) (g.R.CountedRead.calls c.read_counted-outcome.new.self)
     c.loop-made.bytes.items c.deref.result.now c.loop-made._made (c.loop-made._made + 1) c.loop-made.invariant.calls refl
     c.read_counted-outcome.result c.take_in.new.bytes.items c.read_counted-outcome.ensures.calls
-    (subst (λ (progress : Progress). TakesIn c.loop-made.bytes.items c.deref.result.now c.read_counted-outcome.result c.take_in.new.bytes.items (Ok progress))
+    (subst (λ (progress : Intake). TakesIn c.loop-made.bytes.items c.deref.result.now c.read_counted-outcome.result c.take_in.new.bytes.items (Ok progress))
     c.in-Ended.is c.in_ok-take_in.ensures)
     (omega (arith, c.loop-made-test.true)))
 
@@ -55,7 +55,7 @@ loop-made-preserved g c =
     let whole = c.deref.ensures.value ∙ written_back c.loop-made.chunk.len c.read_counted-outcome.new.chunk _ full in
     let bound = subst (λ (given : List ℕ). ReadsAtMost c.read_counted-outcome.result given) (sym whole) c.read_counted-outcome.ensures.bound in
     let takes =
-    subst (λ (progress : Progress). TakesIn c.loop-made.bytes.items c.deref.result.now c.read_counted-outcome.result c.take_in.new.bytes.items (Ok progress))
+    subst (λ (progress : Intake). TakesIn c.loop-made.bytes.items c.deref.result.now c.read_counted-outcome.result c.take_in.new.bytes.items (Ok progress))
     c.in-Goes.is c.in_ok-take_in.ensures in
     let went =
     bytes_go (g.R.CountedRead.remaining c.args.reader.now) (g.R.CountedRead.remaining c.loop-made.reader) (g.R.CountedRead.remaining c.read_counted-outcome.new.self)

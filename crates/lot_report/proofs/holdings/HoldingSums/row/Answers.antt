@@ -1,7 +1,7 @@
 use Rattle.std.proofs.Common.{Err, Ok, [], refl}
 use Rattle.lot_report.specs.Holdings.{HasTaken, fits, holding_row, row_lines}
 use Rattle.lot_report.proofs.FedLemmas.{one_line, row_cut, row_uncounted}
-use Rattle.lot_report.proofs.holdings.Progress.row.Goals as goal
+use Rattle.lot_report.proofs.holdings.HoldingSums.row.Goals as goal
 
 pub returns-in_err-count-clause-takes : goal.returns-in_err-count-clause-takes
 returns-in_err-count-clause-takes g c rows taken =

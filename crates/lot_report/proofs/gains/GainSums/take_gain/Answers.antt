@@ -1,7 +1,7 @@
 use Rattle.std.proofs.Common.{refl, sym}
 use Rattle.std.specs.Prelude.{false}
 use Rattle.lot_report.proofs.GainLemmas.{takes_priced, takes_unpriced}
-use Rattle.lot_report.proofs.gains.Progress.take_gain.Goals as goal
+use Rattle.lot_report.proofs.gains.GainSums.take_gain.Goals as goal
 
 pub returns-in-Some-clause-counts : goal.returns-in-Some-clause-counts
 returns-in-Some-clause-counts c sales taken =

@@ -1,5 +1,5 @@
 use Rattle.lot_report.proofs.HoldingLemmas.{both_count, cost_has_no_room, cost_leaves, value_leaves}
-use Rattle.lot_report.proofs.holdings.Progress.add_both.Goals as goal
+use Rattle.lot_report.proofs.holdings.HoldingSums.add_both.Goals as goal
 
 pub returns-in_default-clause-sums : goal.returns-in_default-clause-sums
 returns-in_default-clause-sums c costs values cost_sums value_sums =

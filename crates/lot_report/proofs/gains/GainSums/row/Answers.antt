@@ -1,7 +1,7 @@
 use Rattle.std.proofs.Common.{map, refl}
 use Rattle.lot_report.specs.Gains.{HasTaken, fits, gained, leg_line, sale_line, sale_lines}
 use Rattle.lot_report.proofs.FedLemmas.{row_cut, row_uncounted}
-use Rattle.lot_report.proofs.gains.Progress.row.Goals as goal
+use Rattle.lot_report.proofs.gains.GainSums.row.Goals as goal
 
 pub returns-in_err-take_gain-clause-takes : goal.returns-in_err-take_gain-clause-takes
 returns-in_err-take_gain-clause-takes g c sales taken =

@@ -1,5 +1,5 @@
 use Rattle.lot_report.proofs.HoldingLemmas.{both_are, cost_counts}
-use Rattle.lot_report.proofs.holdings.Progress.count_lot.Goals as goal
+use Rattle.lot_report.proofs.holdings.HoldingSums.count_lot.Goals as goal
 
 pub returns-in-Some-clause-sums : goal.returns-in-Some-clause-sums
 returns-in-Some-clause-sums c costs values cost_sums value_sums =

@@ -1,7 +1,7 @@
 use Rattle.std.proofs.Common.{refl}
 use Rattle.std.specs.Prelude.{false}
 use Rattle.lot_report.proofs.HoldingLemmas.{plain_counts, row_counts}
-use Rattle.lot_report.proofs.holdings.Progress.count.Goals as goal
+use Rattle.lot_report.proofs.holdings.HoldingSums.count.Goals as goal
 
 pub returns-in-Some-clause-counts : goal.returns-in-Some-clause-counts
 returns-in-Some-clause-counts c rows taken =

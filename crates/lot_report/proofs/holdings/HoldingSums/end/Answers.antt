@@ -1,7 +1,7 @@
 use Rattle.std.proofs.lemmas.Result.{err_from_is_err_and}
 use Rattle.lot_report.proofs.HoldingLemmas.{nothing_held, totals_cut, totals_written}
 use Rattle.lot_report.proofs.OutputLemmas.{none_then}
-use Rattle.lot_report.proofs.holdings.Progress.end.Goals as goal
+use Rattle.lot_report.proofs.holdings.HoldingSums.end.Goals as goal
 
 pub returns-then-self-clause-lines : goal.returns-then-self-clause-lines
 returns-then-self-clause-lines g c = nothing_held _ _ _ _ _ _ c.if-self.true c.print_line.ensures.bytes
