@@ -29,7 +29,7 @@ use Rattle.lot_rows.specs.Tables.{Has, Tables, layout}
 use Rattle.lot_write.specs.declared.write.Write.{Write}
 use Rattle.lot_table.specs.Book.{Holds}
 use Rattle.lot_table.specs.Statement.{DiskFailed}
-use Rattle.lot_store.specs.Apply.{Applies, AppliesWith, HasNoRoomFor, MayAdd, MayWrite, RefusedByDeviceWith, StandsWith, WritesDown}
+use Rattle.lot_store.specs.Apply.{AppliesWith, HasNoRoomFor, MayAdd, MayWrite, RefusedByDeviceWith, StandsWith, WritesDown}
 use Rattle.lot_store.specs.Session.{LeavesEntry}
 use Rattle.lot_store.specs.declared.fault.StoreFault.{StoreFault}
 use Rattle.lot_store.specs.declared.fault.StoreFault.TheVariants.{Damaged, Device, InDoubt, Memory, NeedsReopen}
@@ -264,32 +264,3 @@ refused_number Kept Looked key command known change old mid comes looks numbers 
   accepted = comes;
   lacks = inl numbers;
 })
-
--- ---- with nothing kept
-
--- the same of each book that the tables stand for
-pub with_nothing : (key : Key) (command : Command) (old new : State) (result : Result Verdict StoreFault) (Kept KeptThen : List Entry → Type 0) → ((entries : List Entry) → Kept entries)
-    → AppliesWith Kept KeptThen key command old new result → Applies key command old new result
-with_nothing key command old new result Kept KeptThen all applies = record {
-  judged = λ clean entries stands. judged_alone (result_ok result) entries (applies.judged clean entries (stands, all entries));
-  settled = applies.settled;
-  rest = applies.rest;
-  damaged = λ clean is entries stands. applies.damaged clean is entries (stands, all entries);
-  crash = survives_weaker old new (MayAdd (StandsWith Kept old) key command result) (MayAdd (Stands old) key command result) (λ _ db add. add_alone result db add) applies.crash;
-}
-  where
-    judged_alone : (told : Option Verdict) (entries : List Entry)
-        → IfSome told (λ verdict. (after : List Entry) × JudgesOn entries key command verdict after × StandsWith KeptThen new after)
-        → IfSome told (λ verdict. (after : List Entry) × JudgesOn entries key command verdict after × Stands new after)
-    judged_alone None entries it = tt
-    judged_alone (Some verdict) entries it = (it.0, it.1, it.2.0)
-
-    add_alone : (answer : Result Verdict StoreFault) (db : Trees) → MayAdd (StandsWith Kept old) key command answer db → MayAdd (Stands old) key command answer db
-    add_alone (Ok Accepted) db add = λ entries stands. add entries (stands, all entries)
-    add_alone (Ok Repeated) db none = none
-    add_alone (Ok (Refused refusal)) db none = none
-    add_alone (Err InDoubt) db add = λ entries stands. add entries (stands, all entries)
-    add_alone (Err Memory) db add = λ entries stands. add entries (stands, all entries)
-    add_alone (Err Device) db none = none
-    add_alone (Err NeedsReopen) db none = none
-    add_alone (Err Damaged) db none = none

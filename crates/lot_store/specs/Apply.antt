@@ -114,15 +114,11 @@ pub record AppliesOn (Before After : List Entry → Type 0) (key : Key) (command
   pub damaged : HasCleanDisk new → result ≡ Err Damaged → (entries : List Entry) → ¬ Before entries
   pub crash : Survives old new (MayAdd Before key command result)
 
--- the same of each book that the tables stand for
-abbrev pub Applies : Key → Command → State → State → Result Verdict StoreFault → Type 0
-Applies key command old new = AppliesOn (Stands old) (Stands new) key command old new
-
 -- the tables stand for a book, and what is kept is of it
 abbrev pub StandsWith : (List Entry → Type 0) → State → List Entry → Type 0
 StandsWith Kept s entries = Stands s entries × Kept entries
 
--- the same as `Applies` of the books that what is kept before it is of; what is kept then is of the book after it
+-- the same of the books that what is kept before it is of; what is kept then is of the book after it
 abbrev pub AppliesWith : (Kept KeptThen : List Entry → Type 0) → Key → Command → State → State → Result Verdict StoreFault → Type 0
 AppliesWith Kept KeptThen key command old new = AppliesOn (StandsWith Kept old) (StandsWith KeptThen new) key command old new
 
@@ -138,12 +134,7 @@ pub record HasNoRoomFor (key : Key) (command : Command) (entries : List Entry) (
   pub accepted : IsAcceptedWith known command change
   pub lacks : (¬ AreNumbered change) ⊎ StopsWriting (writes_of known.facts key command change) tables before new
 
--- the device refuses a command of a book only where the disk failed, or the database has no room
-abbrev pub RefusedByDevice : Key → Command → State → State → Type 0
-RefusedByDevice key command old new =
-    (entries : List Entry) (stands : Stands old entries) → DiskFailed old new ⊎ HasNoRoomFor key command entries stands.tables old.now.trees new
-
--- the same of the books that what is kept is of
+-- the device refuses a command of the books that what is kept is of only where the disk failed, or the database has no room
 abbrev pub RefusedByDeviceWith : (List Entry → Type 0) → Key → Command → State → State → Type 0
 RefusedByDeviceWith Kept key command old new =
     (entries : List Entry) (stands : Stands old entries) → Kept entries → DiskFailed old new ⊎ HasNoRoomFor key command entries stands.tables old.now.trees new

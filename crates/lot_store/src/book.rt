@@ -1,6 +1,6 @@
 ghost use Rattle.std.specs.Prelude.{◌≡◌, ◌≢◌, ◌↔◌, false, Err, IsTrue, None, OnErr, option_copied};
 ghost use Rattle.lot_load.specs.Kept.{IsOf};
-ghost use Rattle.lot_store.specs.Apply.{Applies, AppliesWith, RefusedByDevice, RefusedByDeviceWith, condition_after, ready_of};
+ghost use Rattle.lot_store.specs.Apply.{AppliesWith, RefusedByDeviceWith, condition_after, ready_of};
 ghost use Rattle.std.specs.Result.{result_ok};
 ghost use Rattle.lot_store.specs.ByText.{IsByText};
 ghost use Rattle.lot_store.specs.Damage.{MeetsDamage};
@@ -46,43 +46,16 @@ pub struct Book<S: Alter> {
 }
 
 impl<S: Alter> Book<S> {
-    /// Applies a command under a key: judges it on the book by edition 2 and, where it is accepted, makes it an entry in one
-    /// commit. Returns whether it was accepted or repeats an entry. It reads and writes only the rows that the command touches.
+    /// Applies a command under a key, on what is kept of the book: judges it by edition 2 and, where it is accepted, makes it an
+    /// entry in one commit. It reads and writes only the rows that the command touches. Then it keeps what is known of the book.
     ///
     /// On a book `Device` comes only where the disk failed, or the database has no room for what the command writes. After
-    /// `Device` and `InDoubt`, and only then, the book needs reopening, and each further call returns `NeedsReopen`.
+    /// `Device` and `InDoubt`, and only then, the book needs reopening.
     ///
     /// Where the text under the key is the canonical text of no command, the call fails: with `Damaged`, unless memory or the
     /// disk fails before. Whatever the tables stand for, a verdict is by the text that they have under the key. After
     /// `Accepted` the canonical text of the command stands there.
-    pub fn apply(&mut self, key: &Key, command: &Command) -> Result<Verdict, StoreFault>
-        ensures applies { Applies key.now command.now (state S.Store self.old.conn)
-            (state S.Store self.new.conn) result }
-        // With the connection open a crash leaves the last commit, and nothing else.
-        ensures safe { IsTrue (state S.Store self.new.conn).is_open → (trees : Trees)
-            → (state S.Store self.new.conn).may_leave trees
-            → trees ≡ (state S.Store self.new.conn).committed.trees }
-        ensures device { HasCleanDisk (state S.Store self.new.conn)
-            → result ≡ Err StoreFault.Device
-            → RefusedByDevice key.now command.now (state S.Store self.old.conn)
-            (state S.Store self.new.conn) }
-        ensures in_doubt { HasCleanDisk (state S.Store self.new.conn)
-            → result ≡ Err StoreFault.InDoubt
-            → DiskFailed (state S.Store self.old.conn) (state S.Store self.new.conn) }
-        ensures reopen { (result ≡ Err StoreFault.NeedsReopen)
-            ↔ (self.old.condition ≡ Condition.NeedsReopen) }
-        ensures condition { self.new.condition ≡ condition_after result }
-        ensures damage { MeetsDamage key.now
-            (state S.Store self.old.conn) (state S.Store self.new.conn) result }
-        ensures text { IsByText key.now command.now
-            (state S.Store self.old.conn) (state S.Store self.new.conn) result }
-    {
-        self.ready()?;
-        self.apply_with(&mut None, key, command)
-    }
-
-    /// Applies a command as `apply` does, on what is kept of the book. Then keeps what is known of it.
-    pub(crate) fn apply_with(
+    pub(crate) fn apply(
         &mut self,
         kept: &mut Option<Kept>,
         key: &Key,
@@ -92,6 +65,7 @@ impl<S: Alter> Book<S> {
         ensures applies { AppliesWith (IsOf kept.old) (IsOf kept.new) key.now command.now
             (state S.Store self.old.conn) (state S.Store self.new.conn) result }
         ensures forgets { result_ok result ≡ None → kept.new ≡ None }
+        // With the connection open a crash leaves the last commit, and nothing else.
         ensures safe { IsTrue (state S.Store self.new.conn).is_open → (trees : Trees)
             → (state S.Store self.new.conn).may_leave trees
             → trees ≡ (state S.Store self.new.conn).committed.trees }

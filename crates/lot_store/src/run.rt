@@ -156,7 +156,7 @@ impl<S: Alter> Book<S> {
         ensures output { IsWrittenOutAs result
             (writes_between (W.calls writer.old) (W.calls writer.new)) }
     {
-        match self.apply_with(kept, key, command) {
+        match self.apply(kept, key, command) {
             Ok(verdict) => {
                 write_reply(writer, number, &verdict)?;
                 Ok(verdict)
