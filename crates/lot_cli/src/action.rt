@@ -3,6 +3,7 @@ ghost use Rattle.lot_stream.specs.Status.{IsStatus};
 ghost use Rattle.lot_cli.specs.Init.{Makes};
 ghost use Rattle.lot_cli.specs.Serve.{EndsWith, ReadsNothing, Serves};
 ghost use Rattle.sqlite.specs.Held.{state};
+ghost use Rattle.sqlite.specs.State.{HasCleanDisk};
 ghost use Rattle.sqlite.specs.Tree.{Trees};
 ghost use Rattle.lot_io.specs.Reads.{reads_between};
 ghost use Rattle.lot_cli.specs.Says.{told};
@@ -97,6 +98,8 @@ pub fn serve<R: CountedRead, W: CountedWrite, P: Progress + Watch + Look + Aside
         → (state S.Store result.conn).may_leave trees
         → trees ≡ (state S.Store result.conn).committed.trees }
     ensures unread { ReadsNothing action.now → reader.new ≡ reader.old }
+    ensures outside { HasCleanDisk (state S.Store result.conn)
+        → result.conn.in_transaction ≡ false }
     ensures status { EndsWith action.now result.status }
 {
     match action {
@@ -159,6 +162,8 @@ fn init<W: CountedWrite, S: Alter>(alloc: Global, writer: &mut W, conn: Connecti
         (W.contents writer.old) (W.contents writer.new)
         (writes_between (W.calls writer.old) (W.calls writer.new))
         (told result.status result.halt) }
+    ensures outside { HasCleanDisk (state S.Store result.conn)
+        → result.conn.in_transaction ≡ false }
     ensures status { IsStatus result.status }
 {
     match create(alloc, conn) {

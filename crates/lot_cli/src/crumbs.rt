@@ -53,6 +53,8 @@ pub(crate) fn check_with<R: CountedRead, W: CountedWrite, N: Watch, S: Alter>(
         (W.contents writer.old) (W.contents writer.new)
         (writes_between (W.calls writer.old) (W.calls writer.new))
         (told result.status result.halt) }
+    ensures outside { HasCleanDisk (state S.Store result.conn)
+        → result.conn.in_transaction ≡ false }
     ensures status { IsStatus result.status }
 {
     match create(alloc, conn) {

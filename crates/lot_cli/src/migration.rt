@@ -2,6 +2,7 @@ ghost use Rattle.std.specs.Prelude.{◌≡◌, None, false};
 ghost use Rattle.lot_stream.specs.Status.{IsStatus};
 ghost use Rattle.lot_cli.specs.Serve.{SaysMigrated};
 ghost use Rattle.sqlite.specs.Held.{state};
+ghost use Rattle.sqlite.specs.State.{HasCleanDisk};
 ghost use Rattle.lot_cli.specs.Says.{told};
 ghost use Rattle.lot_io.specs.Writes.{writes_between};
 
@@ -29,6 +30,8 @@ pub(crate) fn migrate<W: CountedWrite, P: Progress, S: Alter>(
         (W.contents writer.old) (W.contents writer.new)
         (writes_between (W.calls writer.old) (W.calls writer.new))
         (told result.status result.halt) }
+    ensures outside { HasCleanDisk (state S.Store result.conn)
+        → result.conn.in_transaction ≡ false }
     ensures status { IsStatus result.status }
 {
     match lot_migrate::migrate(alloc, conn, progress) {

@@ -2,6 +2,7 @@ ghost use Rattle.std.specs.Prelude.{◌≡◌, ◌⊎◌, None, false, option_co
 ghost use Rattle.lot_stream.specs.Status.{IsStatus};
 ghost use Rattle.lot_cli.specs.Runs.{Posts, PostsRow, unfit};
 ghost use Rattle.sqlite.specs.Held.{state};
+ghost use Rattle.sqlite.specs.State.{HasCleanDisk};
 ghost use Rattle.lot_io.specs.Reads.{reads_between};
 ghost use Rattle.lot_cli.specs.Says.{told};
 ghost use Rattle.lot_io.specs.Writes.{writes_between};
@@ -43,6 +44,8 @@ pub(crate) fn post<R: CountedRead, W: CountedWrite, N: Watch + Look, S: Alter>(
         (W.contents writer.old) (W.contents writer.new)
         (writes_between (W.calls writer.old) (W.calls writer.new))
         (told result.status result.halt) }
+    ensures outside { HasCleanDisk (state S.Store result.conn)
+        → result.conn.in_transaction ≡ false }
     ensures status { IsStatus result.status }
 {
     let first = asked.from.number() as usize;
@@ -86,6 +89,8 @@ pub(crate) fn post_row<R: CountedRead, W: CountedWrite, N: Watch + Look, S: Alte
         (W.contents writer.old) (W.contents writer.new)
         (writes_between (W.calls writer.old) (W.calls writer.new))
         (told result.status result.halt) }
+    ensures outside { HasCleanDisk (state S.Store result.conn)
+        → result.conn.in_transaction ≡ false }
     ensures status { IsStatus result.status ⊎ (result.status ≡ unfit) }
 {
     match keyed_row(alloc, batch, reference, reader) {

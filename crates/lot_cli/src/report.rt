@@ -13,6 +13,7 @@ ghost use Rattle.lot_store.specs.Extent.{extent_of};
 ghost use Rattle.lot_store.specs.declared.book.Condition.TheVariants.{Ready};
 ghost use Rattle.lot_stored.specs.Rows.{entry_rows};
 ghost use Rattle.sqlite.specs.Held.{state};
+ghost use Rattle.sqlite.specs.State.{HasCleanDisk};
 
 use crate::action::Served;
 use crate::halt::Halt;
@@ -65,6 +66,8 @@ pub(crate) fn write_report<W: CountedWrite, S: Alter>(
         (W.contents writer.old) (W.contents writer.new)
         (writes_between (W.calls writer.old) (W.calls writer.new))
         (told result.status result.halt) }
+    ensures outside { HasCleanDisk (state S.Store result.conn)
+        → result.conn.in_transaction ≡ false }
     ensures status { IsStatus result.status }
 {
     match adopt(alloc, conn) {
@@ -85,6 +88,8 @@ pub(crate) fn write_report_of<W: CountedWrite, S: Alter>(
         (W.contents writer.old) (W.contents writer.new)
         (writes_between (W.calls writer.old) (W.calls writer.new)) result.status }
     ensures goes_on { result.halt ≡ None }
+    ensures outside { HasCleanDisk (state S.Store result.conn)
+        → result.conn.in_transaction ≡ false }
     ensures status { IsStatus result.status }
 {
     let mut book = book;

@@ -4,6 +4,7 @@ ghost use Rattle.lot_stream.specs.Status.{IsStatus};
 ghost use Rattle.lot_cli.specs.Restore.{EndsUnrestored, RestoresBook, answer_of, status_of_restored, terms_for};
 ghost use Rattle.lot_cli.specs.Says.{Says, told};
 ghost use Rattle.sqlite.specs.Held.{state};
+ghost use Rattle.sqlite.specs.State.{HasCleanDisk};
 ghost use Rattle.lot_io.specs.Reads.{reads_between};
 ghost use Rattle.lot_io.specs.Writes.{writes_between};
 ghost use Rattle.lot_input.specs.Input.{reading_between};
@@ -37,6 +38,8 @@ pub(crate) fn restore<R: CountedRead, W: CountedWrite, S: Alter>(
         (W.contents writer.old) (W.contents writer.new)
         (writes_between (W.calls writer.old) (W.calls writer.new))
         (told result.status result.halt) }
+    ensures outside { HasCleanDisk (state S.Store result.conn)
+        → result.conn.in_transaction ≡ false }
     ensures status { IsStatus result.status }
 {
     let restoring = Restoring {

@@ -46,6 +46,8 @@ pub(crate) fn run<W: CountedWrite, N: Watch + Look, S: Alter>(
         (W.contents writer.old) (W.contents writer.new)
         (writes_between (W.calls writer.old) (W.calls writer.new))
         (told result.status result.halt) }
+    ensures outside { HasCleanDisk (state S.Store result.conn)
+        → result.conn.in_transaction ≡ false }
     ensures status { IsStatus result.status }
 {
     // Outside a transaction the tables are those of the last commit.
