@@ -6,7 +6,7 @@
 //! - `told`: why commands were refused, and what the codes mean; `facts`: what the book says of it, and `remembered`: what it
 //!   said of commands that aren't kept.
 //! - `notes`: what else is said of a call; `fate`: what became of one that keeps all or none; `remains`: what remains of one whose
-//!   output can't be written; `standing`: what stands in the place of its book.
+//!   output can't be written; `file_kind`: what stands in the place of its book.
 //! - `crumbs`: what became of the crumbs of commands; `taken`: what an account took of them, with the
 //!   `sums`. `watched`: all that is watched of commands.
 //! - `profile`: the profile of an import, as it is read from its file. `export`: what is said of a broker's export; `exported`: its
@@ -22,13 +22,13 @@ mod exported;
 mod facts;
 mod fate;
 mod figures;
+mod file_kind;
 mod notes;
 mod profile;
 mod remains;
 mod remembered;
 mod row_fault;
 mod signs;
-mod standing;
 mod status;
 mod sums;
 mod taken;
@@ -40,11 +40,11 @@ pub use call::{Call, path_of, rounding_of};
 pub use crumbs::Crumbs;
 pub use export::{say_aside, say_export_fault};
 pub use fate::Fate;
+pub use file_kind::FileKind;
 pub use notes::{say_fate, say_why, sum_up};
 pub use profile::{LoadFault, Loaded, load, loaded_from};
 pub use remains::{say_cut_short, say_unwritten};
 pub use remembered::Remembered;
-pub use standing::FileKind;
 pub use status::out_of_memory;
 pub use taken::say_taken;
 pub use told::{explain, tell};

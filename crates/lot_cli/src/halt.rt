@@ -20,7 +20,7 @@ use lot_store::{AdoptFault, CreateFault, StoreFault};
 use lot_stream::Status;
 use lot_verify::VerifyFault;
 
-/// Why an action ends before its first command.
+/// Why an action comes to nothing: its input, its book or its dump.
 #[derive(Clone, Copy, Debug, PartialEq, Eq)]
 pub enum Halt {
     /// What was read gives no commands.

@@ -1,12 +1,12 @@
 //! The rows of a broker file or an export that a call leaves out, and those that it should leave out and that aren't there.
 
-use crate::call::Transcript;
 use crate::export::ExportRows;
 use crate::notebook::Notebook;
 use crate::place::InputPlace;
 use crate::reading::place_in;
 use crate::records::Records;
 use crate::shown::Shown;
+use crate::transcript::Transcript;
 use lot_base::Label;
 use lot_import::Row;
 use std::alloc::Global;
@@ -17,18 +17,18 @@ use std::io::{self, Write};
 pub(crate) fn note_left_out<W: Write>(
     alloc: Global,
     writer: &mut W,
-    call: &Transcript<'_>,
+    transcript: &Transcript<'_>,
     rows: &[Row],
     most: u64,
 ) -> io::Result<()> {
-    if call.except.is_empty() || rows.is_empty() {
+    if transcript.except.is_empty() || rows.is_empty() {
         return Ok(());
     }
     let mut notes = Notebook::new(alloc, writer, most);
-    note_rows(alloc, &mut notes, call, rows)?;
+    note_rows(alloc, &mut notes, transcript, rows)?;
     notes.end()?;
     let mut notes = Notebook::new(alloc, writer, u64::MAX);
-    for name in call.except {
+    for name in transcript.except {
         if !has_row(rows, name) {
             let name = Shown(name.as_str().as_bytes());
             notes.note(InputPlace::Whole, format_args!("no row has the ref {name}"))?;
@@ -41,22 +41,22 @@ pub(crate) fn note_left_out<W: Write>(
 pub(crate) fn note_left_out_by_name<W: Write>(
     alloc: Global,
     writer: &mut W,
-    call: &Transcript<'_>,
+    transcript: &Transcript<'_>,
     rows: &ExportRows,
     most: u64,
 ) -> io::Result<()> {
-    if call.except.is_empty() || rows.is_empty() {
+    if transcript.except.is_empty() || rows.is_empty() {
         return Ok(());
     }
     let mut notes = Notebook::new(alloc, writer, most);
     for (number, row) in rows {
-        if call.except.contains(&row.name) {
+        if transcript.except.contains(&row.name) {
             notes.note(place_in(rows, *number), "left out")?;
         }
     }
     notes.end()?;
     let mut notes = Notebook::new(alloc, writer, u64::MAX);
-    for name in call.except {
+    for name in transcript.except {
         if !has_name(rows, name) {
             let name = Shown(name.as_str().as_bytes());
             notes.note(
@@ -72,13 +72,13 @@ pub(crate) fn note_left_out_by_name<W: Write>(
 fn note_rows<W: Write>(
     alloc: Global,
     notes: &mut Notebook<'_, W>,
-    call: &Transcript<'_>,
+    transcript: &Transcript<'_>,
     rows: &[Row],
 ) -> io::Result<()> {
-    let mut records = Records::new(alloc, call.input)?;
+    let mut records = Records::new(alloc, transcript.input)?;
     for row in rows {
         records.next_row()?;
-        if records.row >= call.from as usize && call.leaves_out(row) {
+        if records.row >= transcript.from as usize && transcript.leaves_out(row) {
             notes.note(records.place(), "left out")?;
         }
     }

@@ -22,7 +22,6 @@
 
 mod book;
 mod bound;
-mod call;
 mod causes;
 mod codes;
 mod commas;
@@ -49,13 +48,14 @@ mod said;
 mod shown;
 mod site;
 mod split;
+mod transcript;
 mod warning;
 
 pub use book::{BookReader, Entry, Latest, Lot};
-pub use call::{Source, Transcript, notes};
 pub use causes::Cause;
 pub use explained::{cause_of, explain, list, nearest_code};
 pub use export::{ExportRow, ExportRows, line_at};
 pub use finding::{Finding, Findings};
 pub use quoted::{LongOption, Quoted, is_shown};
 pub use shown::Shown;
+pub use transcript::{Source, Transcript, notes};

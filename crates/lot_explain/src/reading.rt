@@ -1,10 +1,10 @@
 //! The commands of a ledger text, and those of a broker file, with their places.
 
-use crate::call::{Source, Transcript};
 use crate::export::{ExportRows, row_at};
 use crate::place::InputPlace;
 use crate::records::Records;
 use crate::site::Sites;
+use crate::transcript::{Source, Transcript};
 use lot_command::{Command, Key};
 use lot_import::{Accounts, Row, RowsFault, read_rows};
 use lot_read::{TextFault, read};
@@ -35,20 +35,23 @@ pub(crate) enum Reading<'a> {
 
 impl<'a> Reading<'a> {
     /// Reads what a call was given. The only error is out of memory.
-    pub(crate) fn of(alloc: Global, call: &Transcript<'a>) -> Result<Reading<'a>, AllocError> {
-        Ok(match call.source {
+    pub(crate) fn of(
+        alloc: Global,
+        transcript: &Transcript<'a>,
+    ) -> Result<Reading<'a>, AllocError> {
+        Ok(match transcript.source {
             Source::Text { .. } | Source::Row { .. } => Reading::Text {
-                commands: commands_of(alloc, call)?,
-                sites: Sites::new(call.input),
+                commands: commands_of(alloc, transcript)?,
+                sites: Sites::new(transcript.input),
             },
             Source::Rows { accounts, .. } => Reading::Rows {
-                rows: match read_rows(alloc, call.input) {
+                rows: match read_rows(alloc, transcript.input) {
                     Err(RowsFault::Memory) => return Err(AllocError),
                     Err(_) => Vec::new(alloc),
                     Ok(rows) => rows,
                 },
                 accounts,
-                records: Records::new(alloc, call.input)?,
+                records: Records::new(alloc, transcript.input)?,
             },
             Source::Export { rows, commands, .. } => Reading::Export { rows, commands },
             Source::Dump => Reading::Dump,
@@ -101,11 +104,11 @@ pub(crate) fn place_in(rows: &ExportRows, number: usize) -> InputPlace<'_> {
 
 /// Returns the commands of a text: none where it is faulty, or where nothing was said of it, so that
 /// no text is read again for nothing. The only error is out of memory.
-fn commands_of(alloc: Global, call: &Transcript<'_>) -> Result<Vec<Command>, AllocError> {
-    if call.lines.is_empty() {
+fn commands_of(alloc: Global, transcript: &Transcript<'_>) -> Result<Vec<Command>, AllocError> {
+    if transcript.lines.is_empty() {
         return Ok(Vec::new(alloc));
     }
-    match read(alloc, call.input) {
+    match read(alloc, transcript.input) {
         Err(TextFault::Memory { .. }) => Err(AllocError),
         Err(TextFault::Line { .. }) => Ok(Vec::new(alloc)),
         Ok(commands) => Ok(commands),

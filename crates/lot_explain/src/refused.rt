@@ -5,7 +5,6 @@ ghost use Rattle.std.specs.Prelude.{◌≡◌, option_map};
 ghost use Rattle.lot_explain.specs.Cause.{cause_behind, is_of_disk};
 
 use crate::book::BookReader;
-use crate::call::{Key, Naming, Transcript};
 use crate::crumbs::crumbs;
 use crate::explained::find;
 use crate::export::{ExportRow, row_at};
@@ -19,6 +18,7 @@ use crate::quoted::LongOption;
 use crate::reading::Reading;
 use crate::said::{Said, heard};
 use crate::shown::Shown;
+use crate::transcript::{Key, Naming, Transcript};
 use lot_command::{Command, Key as CommandKey};
 use lot_import::{CommandFault, Row, command};
 use lot_rounding::{Asked, Rounding, RowCash};
@@ -49,23 +49,23 @@ pub(crate) fn note_lines<W: Write, B: BookReader>(
     alloc: Global,
     notes: &mut Notebook<'_, W>,
     book: &mut B,
-    call: &Transcript<'_>,
+    transcript: &Transcript<'_>,
     reading: &mut Reading<'_>,
 ) -> io::Result<()> {
-    for line in Lines::new(call.lines) {
+    for line in Lines::new(transcript.lines) {
         match heard(line) {
             Some(said) if said.code.starts_with('X') && !matches!(reading, Reading::Dump) => {
-                faulty_lines(alloc, notes, call.input)?;
+                faulty_lines(alloc, notes, transcript.input)?;
             }
             // What is wrong with an export is said by who knows its profile.
             Some(said) if said.code.starts_with('C') && matches!(reading, Reading::Export { .. }) =>
                 {}
-            Some(said) if said.code == "C2" => faulty_rows(alloc, notes, call.input)?,
-            Some(said) => note_said(alloc, notes, book, call, reading, &said)?,
+            Some(said) if said.code == "C2" => faulty_rows(alloc, notes, transcript.input)?,
+            Some(said) => note_said(alloc, notes, book, transcript, reading, &said)?,
             None => {}
         }
     }
-    notes.pass(call.left_out);
+    notes.pass(transcript.left_out);
     Ok(())
 }
 
@@ -75,7 +75,7 @@ fn note_said<W: Write, B: BookReader>(
     alloc: Global,
     notes: &mut Notebook<'_, W>,
     book: &mut B,
-    call: &Transcript<'_>,
+    transcript: &Transcript<'_>,
     reading: &mut Reading<'_>,
     said: &Said<'_>,
 ) -> io::Result<()> {
@@ -93,15 +93,15 @@ fn note_said<W: Write, B: BookReader>(
             )
         }
         None => {
-            let (colon, cause) = cause_behind(said.code, call.cause);
+            let (colon, cause) = cause_behind(said.code, transcript.cause);
             notes.note(
                 InputPlace::Whole,
                 format_args!("{code}: {brief}{colon}{cause}"),
             )
         }
         Some(number) => {
-            let (colon, cause) = cause_behind(said.code, call.cause);
-            let fact = known(alloc, book, &*call, reading, number, &*said)?;
+            let (colon, cause) = cause_behind(said.code, transcript.cause);
+            let fact = known(alloc, book, &*transcript, reading, number, &*said)?;
             let place = reading.go_to(number, said.posting)?;
             notes.note(place, format_args!("{code}: {brief}{colon}{cause}{fact}"))
         }
@@ -125,7 +125,7 @@ fn cause_behind<'a>(code: &str, cause: Option<&'a str>) -> (&'static str, &'a st
 fn known<'a, B: BookReader>(
     alloc: Global,
     book: &mut B,
-    call: &'a Transcript<'a>,
+    transcript: &'a Transcript<'a>,
     reading: &'a Reading<'_>,
     number: usize,
     said: &'a Said<'a>,
@@ -135,14 +135,14 @@ fn known<'a, B: BookReader>(
             Some(command) => {
                 let name = format!(in alloc; "{number}")?;
                 let refused = Refused {
-                    key: call.key(name.as_str()),
+                    key: transcript.key(name.as_str()),
                     command,
                     said,
                     commands,
                     cash: None,
-                    rounding: call.rounding,
-                    naming: call.naming(),
-                    finding: call.findings.of(number),
+                    rounding: transcript.rounding,
+                    naming: transcript.naming(),
+                    finding: transcript.findings.of(number),
                 };
                 let mut text = fact(alloc, book, &refused)?;
                 text.push_str(crumbs(alloc, &refused)?.as_str())?;
@@ -151,21 +151,21 @@ fn known<'a, B: BookReader>(
             None => Ok(String::new(alloc)),
         },
         Reading::Rows { rows, accounts, .. } => match item(rows, number) {
-            Some(row) if said.code == "C4" => cash(alloc, row, call.rounding),
-            Some(row) => match command(alloc, row, accounts, call.decimals()) {
+            Some(row) if said.code == "C4" => cash(alloc, row, transcript.rounding),
+            Some(row) => match command(alloc, row, accounts, transcript.decimals()) {
                 Ok(command) => {
                     let refused = Refused {
-                        key: call.key(row.name.as_str()),
+                        key: transcript.key(row.name.as_str()),
                         command: &command,
                         said,
                         commands: &[],
-                        cash: match call.rounding {
+                        cash: match transcript.rounding {
                             Some(_) => None,
                             None => row_cash(row, &command),
                         },
-                        rounding: call.rounding,
-                        naming: call.naming(),
-                        finding: call.findings.of(number),
+                        rounding: transcript.rounding,
+                        naming: transcript.naming(),
+                        finding: transcript.findings.of(number),
                     };
                     let mut text = named(alloc, &refused)?;
                     text.push_str(fact(alloc, book, &refused)?.as_str())?;
@@ -179,7 +179,7 @@ fn known<'a, B: BookReader>(
             None => Ok(String::new(alloc)),
         },
         Reading::Export { rows, commands } => match row_at(rows, number) {
-            Some(row) => known_of_export(alloc, book, call, number, row, commands, said),
+            Some(row) => known_of_export(alloc, book, transcript, number, row, commands, said),
             None => Ok(String::new(alloc)),
         },
         Reading::Dump => Ok(String::new(alloc)),
@@ -190,7 +190,7 @@ fn known<'a, B: BookReader>(
 fn known_of_export<'a, B: BookReader>(
     alloc: Global,
     book: &mut B,
-    call: &'a Transcript<'a>,
+    transcript: &'a Transcript<'a>,
     number: usize,
     row: &'a ExportRow,
     commands: &'a [(CommandKey, Asked)],
@@ -200,14 +200,14 @@ fn known_of_export<'a, B: BookReader>(
         return Ok(String::new(alloc));
     };
     let refused = Refused {
-        key: call.key(row.name.as_str()),
+        key: transcript.key(row.name.as_str()),
         command: &asked.command,
         said,
         commands: &[],
         cash: None,
-        rounding: call.rounding,
-        naming: call.naming(),
-        finding: call.findings.of(number),
+        rounding: transcript.rounding,
+        naming: transcript.naming(),
+        finding: transcript.findings.of(number),
     };
     let mut text = named(alloc, &refused)?;
     text.push_str(fact(alloc, book, &refused)?.as_str())?;

@@ -1,13 +1,13 @@
 //! What is read otherwise than it may have been meant, though no rule is broken.
 
 use crate::book::BookReader;
-use crate::call::Transcript;
 use crate::commas::{Commas, first_with_comma};
 use crate::notebook::Notebook;
 use crate::place::InputPlace;
 use crate::records::{FEE, PRICE, Records, UNITS};
 use crate::shown::Shown;
 use crate::site::{Kind, commands_in, is_indented, kind_of};
+use crate::transcript::Transcript;
 use lot_command::{Command, Opening};
 use lot_cost::Method;
 use lot_import::Row;
@@ -25,11 +25,11 @@ pub(crate) fn warn_of_text<W: Write, B: BookReader>(
     alloc: Global,
     notes: &mut Notebook<'_, W>,
     book: &mut B,
-    call: &Transcript<'_>,
+    transcript: &Transcript<'_>,
 ) -> io::Result<()> {
-    let has_commas = memchr(b',', call.input).is_some();
+    let has_commas = memchr(b',', transcript.input).is_some();
     let mut number = 0u64;
-    for line in Lines::new(call.input) {
+    for line in Lines::new(transcript.input) {
         number = number.saturating_add(1);
         let place = InputPlace::Line { number, line };
         if may_open_or_close(line) {
@@ -39,8 +39,13 @@ pub(crate) fn warn_of_text<W: Write, B: BookReader>(
             warn_of_number(alloc, notes, place, number)?;
         }
     }
-    if call.from > 1 {
-        warn_of_start(notes, call.from, commands_in(call.input), "commands")?;
+    if transcript.from > 1 {
+        warn_of_start(
+            notes,
+            transcript.from,
+            commands_in(transcript.input),
+            "commands",
+        )?;
     }
     Ok(())
 }
@@ -160,26 +165,26 @@ fn warn_of_start<W: Write>(
 pub(crate) fn warn_of_rows<W: Write>(
     alloc: Global,
     notes: &mut Notebook<'_, W>,
-    call: &Transcript<'_>,
+    transcript: &Transcript<'_>,
     rows: &[Row],
 ) -> io::Result<()> {
     if rows.is_empty() {
         return Ok(());
     }
-    warn_of_order(alloc, notes, call, rows)?;
-    warn_of_start(notes, call.from, rows.len(), "rows")?;
-    warn_of_commas(alloc, notes, call, rows)?;
-    warn_of_refs(alloc, notes, call, rows)
+    warn_of_order(alloc, notes, transcript, rows)?;
+    warn_of_start(notes, transcript.from, rows.len(), "rows")?;
+    warn_of_commas(alloc, notes, transcript, rows)?;
+    warn_of_refs(alloc, notes, transcript, rows)
 }
 
 /// Warns of rows that are newest first.
 fn warn_of_order<W: Write>(
     alloc: Global,
     notes: &mut Notebook<'_, W>,
-    call: &Transcript<'_>,
+    transcript: &Transcript<'_>,
     rows: &[Row],
 ) -> io::Result<()> {
-    let (Some(first), Some(last)) = ends(call, rows) else {
+    let (Some(first), Some(last)) = ends(transcript, rows) else {
         return Ok(());
     };
     if first.day <= last.day {
@@ -196,10 +201,10 @@ fn warn_of_order<W: Write>(
 }
 
 /// Returns the first and the last of the rows that aren't left out.
-fn ends<'a>(call: &Transcript<'_>, rows: &'a [Row]) -> (Option<&'a Row>, Option<&'a Row>) {
+fn ends<'a>(transcript: &Transcript<'_>, rows: &'a [Row]) -> (Option<&'a Row>, Option<&'a Row>) {
     let (mut first, mut last) = (None, None);
     for row in rows {
-        if !call.leaves_out(row) {
+        if !transcript.leaves_out(row) {
             first = first.or(Some(row));
             last = Some(row);
         }
@@ -211,21 +216,21 @@ fn ends<'a>(call: &Transcript<'_>, rows: &'a [Row]) -> (Option<&'a Row>, Option<
 fn warn_of_commas<W: Write>(
     alloc: Global,
     notes: &mut Notebook<'_, W>,
-    call: &Transcript<'_>,
+    transcript: &Transcript<'_>,
     rows: &[Row],
 ) -> io::Result<()> {
     // A field with a comma stands in quotes.
-    if memchr(b'"', call.input).is_none() {
+    if memchr(b'"', transcript.input).is_none() {
         return Ok(());
     }
-    let commas = commas_in(alloc, call, rows)?;
+    let commas = commas_in(alloc, transcript, rows)?;
     for (name, place, column) in [
         ("units", UNITS, commas.units),
         ("price", PRICE, commas.price),
         ("fee", FEE, commas.fee),
     ] {
         if let Some(first) = column.first {
-            let mut records = Records::new(alloc, call.input)?;
+            let mut records = Records::new(alloc, transcript.input)?;
             records.go_to(first)?;
             warn_of_column(alloc, notes, &records, name, place, column.more)?;
         }
@@ -235,12 +240,16 @@ fn warn_of_commas<W: Write>(
 
 /// Returns in which columns of a file with these rows numbers have a comma, without those that are
 /// left out. The only error is out of memory.
-fn commas_in(alloc: Global, call: &Transcript<'_>, rows: &[Row]) -> Result<Commas, AllocError> {
-    let mut records = Records::new(alloc, call.input)?;
+fn commas_in(
+    alloc: Global,
+    transcript: &Transcript<'_>,
+    rows: &[Row],
+) -> Result<Commas, AllocError> {
+    let mut records = Records::new(alloc, transcript.input)?;
     let mut commas = Commas::NONE;
     for row in rows {
         records.next_row()?;
-        if !call.leaves_out(row) {
+        if !transcript.leaves_out(row) {
             commas = commas.with(records.row, &records.record);
         }
     }
@@ -292,14 +301,14 @@ impl fmt::Display for Others {
 fn warn_of_refs<W: Write>(
     alloc: Global,
     notes: &mut Notebook<'_, W>,
-    call: &Transcript<'_>,
+    transcript: &Transcript<'_>,
     rows: &[Row],
 ) -> io::Result<()> {
-    let mut records = Records::new(alloc, call.input)?;
+    let mut records = Records::new(alloc, transcript.input)?;
     let mut seen = BTreeMap::new(alloc);
     for row in rows {
         records.next_row()?;
-        if call.leaves_out(row) {
+        if transcript.leaves_out(row) {
             continue;
         }
         if let Some(before) = seen.insert(row.name.as_str(), records.row)? {

@@ -26,14 +26,14 @@ impl Watch for LastLook {
 /// Says on standard error where the book of that path is damaged, with a connection to it. The book
 /// is judged once more, and what is looked at then is followed.
 pub fn say_where<S: Alter>(rt: &HostRuntime, path: &str, conn: &mut Connection<S>) {
-    let mut place = LastLook {
+    let mut last = LastLook {
         spot: None,
         rows: 0,
     };
-    let Err(Fault::Damaged) = judge_book(rt.alloc(), conn, &mut place) else {
+    let Err(Fault::Damaged) = judge_book(rt.alloc(), conn, &mut last) else {
         return;
     };
-    let Some(spot) = place.spot else {
+    let Some(spot) = last.spot else {
         return;
     };
     let _ = match spot {
@@ -54,7 +54,7 @@ pub fn say_where<S: Alter>(rt: &HostRuntime, path: &str, conn: &mut Connection<S
             "lotbook: {path}: table {} has rows that no entry makes",
             name_of(table)
         ),
-        Spot::Table(table) => match key_of(conn, table, place.rows) {
+        Spot::Table(table) => match key_of(conn, table, last.rows) {
             Some(key) => eprintln!(rt;
                 "lotbook: {path}: table {}: the row of {key} isn't what the entries come to",
                 name_of(table)

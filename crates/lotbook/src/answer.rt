@@ -126,7 +126,7 @@ fn say_faulty_export(call: &Call<'_>, read: &Record, fault: ExportFault) {
 /// book, or holds one already, or a damaged one.
 pub fn advise<S: Alter>(call: &Call<'_>, path: &str, halt: Halt, conn: &mut Connection<S>) {
     let rt = call.rt;
-    let standing = match halt {
+    let kind = match halt {
         Halt::Adopt(AdoptFault::OlderEdition) | Halt::Verify(VerifyFault::OlderEdition) => {
             Some(FileKind::OlderBook)
         }
@@ -146,8 +146,8 @@ pub fn advise<S: Alter>(call: &Call<'_>, path: &str, halt: Halt, conn: &mut Conn
         }
         _ => None,
     };
-    if let Some(standing) = standing {
-        standing.say(rt, path);
+    if let Some(kind) = kind {
+        kind.say(rt, path);
     }
 }
 

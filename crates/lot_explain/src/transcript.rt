@@ -129,22 +129,24 @@ pub fn notes<W: Write, B: BookReader>(
     alloc: Global,
     writer: &mut W,
     book: &mut B,
-    call: &Transcript<'_>,
+    transcript: &Transcript<'_>,
     most: u64,
 ) -> io::Result<()> {
-    let mut reading = Reading::of(alloc, call)?;
+    let mut reading = Reading::of(alloc, transcript)?;
     let mut notes = Notebook::new(alloc, writer, most);
-    note_lines(alloc, &mut notes, book, call, &mut reading)?;
+    note_lines(alloc, &mut notes, book, transcript, &mut reading)?;
     notes.end()?;
     match &reading {
-        Reading::Rows { rows, .. } => note_left_out(alloc, writer, call, rows, most)?,
-        Reading::Export { rows, .. } => note_left_out_by_name(alloc, writer, call, *rows, most)?,
+        Reading::Rows { rows, .. } => note_left_out(alloc, writer, transcript, rows, most)?,
+        Reading::Export { rows, .. } => note_left_out_by_name(
+            alloc, writer, transcript, *rows, most,
+        )?,
         Reading::Text { .. } | Reading::Dump => {}
     }
     let mut warnings = Notebook::new(alloc, writer, most);
     match &reading {
-        Reading::Text { .. } => warn_of_text(alloc, &mut warnings, book, call)?,
-        Reading::Rows { rows, .. } => warn_of_rows(alloc, &mut warnings, call, rows)?,
+        Reading::Text { .. } => warn_of_text(alloc, &mut warnings, book, transcript)?,
+        Reading::Rows { rows, .. } => warn_of_rows(alloc, &mut warnings, transcript, rows)?,
         Reading::Export { .. } | Reading::Dump => {}
     }
     warnings.end()
