@@ -408,13 +408,14 @@ class Build:
 
 def proves(crate, jobs):
     """What proves a crate in its room, or builds the program there."""
-    rt, verb = os.path.realpath(RT), "run" if crate.is_program else "lib"
-    if not os.path.isfile(f"{os.path.dirname(rt)}/rtlib.py"):
-        return [RT, verb, "--jobs", str(jobs)]
+    if crate.is_program:
+        return [RT, "run", "--jobs", str(jobs)]
+    rt = os.path.realpath(RT)
     # Work that is kept makes each later check quick.
     is_new = not os.path.exists(f"{crate.home}/out/rlib") and not os.path.exists(f"{crate.at_work()}/out/incremental")
-    what = "statements" if is_new and not crate.is_program else verb
-    return [sys.executable, f"{ROOT}/tools/library.py", rt, what, str(jobs)]
+    if is_new and os.path.isfile(f"{os.path.dirname(rt)}/rtlib.py"):
+        return [sys.executable, f"{ROOT}/tools/library.py", rt, str(jobs)]
+    return [RT, "lib", "--jobs", str(jobs)]
 
 
 def end_with_parent():

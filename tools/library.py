@@ -1,13 +1,11 @@
-"""Calls the kit's command in the folder in which it is called, in less time.
+"""Builds a library of the crate in whose folder it is called, without the proofs of its statements.
 
-    tools/library.py RT lib|run|statements JOBS        RT is the kit's command
+    tools/library.py RT JOBS        RT is the kit's command
 
-`lib` and `run` are words of that command. `statements` is `lib`, but leaves the library's statements there without its proofs. The
-checks of the crates above then load less, so they take less time and memory: they need the statements alone. The kit's gate builds
-libraries so, but `rt lib` has no word for it. So the call of the prover is changed here. Such a check keeps no work for a later one.
-
-The command sums up the sources of each library below a crate once for every way that leads down to it, of which there are tens of
-thousands. Here it does so once. Where the kit's command is of another make, it is called as it is.
+It is `rt lib`, but leaves the library's statements there without its proofs. The checks of the crates above then load less, so they
+take less time and memory: they need the statements alone. The kit's gate builds libraries so, but `rt lib` has no word for it. So the
+call of the prover is changed here. Such a check keeps no work for a later one. Where the kit's command is of another make, it is
+called as it is.
 """
 
 import importlib.machinery
@@ -26,28 +24,21 @@ def loaded(path):
     return made
 
 
-def main(path, what, jobs):
-    words = ["lib" if what == "statements" else what, "--jobs", jobs]
+def main(path, jobs):
+    words = ["lib", "--jobs", jobs]
     try:
         rt = loaded(path)
         begin, kept, crate = rt.main, rt.rtlib.KEPT, rt.rtlib.Crate
-        call, stamp, stamps = crate.call, crate.stamp, {}
+        call = crate.call
     except (AttributeError, ImportError, OSError, SyntaxError):
         os.execv(path, [path, *words])
-
-    def stamp_once(self):
-        if self.folder not in stamps:
-            stamps[self.folder] = stamp(self)
-        return stamps[self.folder]
 
     def call_for_statements(self, *given):
         if "build" in given:
             given = [*(it for it in given if it not in kept), "--statements"]
         return call(self, *given)
 
-    crate.stamp = stamp_once
-    if what == "statements":
-        crate.call = call_for_statements
+    crate.call = call_for_statements
     return begin(words)
 
 
