@@ -1,3 +1,4 @@
+pub mod Access
 pub mod Except
 pub mod Fate
 pub mod Loaded

@@ -38,7 +38,15 @@ impl Call<'_> {
         match self.action {
             Action::Post(_) | Action::PostRow { .. } => Some("commands"),
             Action::Import(_) | Action::ImportBy(_) => Some("rows"),
-            _ => None,
+            Action::Check { .. }
+            | Action::Init { .. }
+            | Action::Migrate { .. }
+            | Action::Holdings { .. }
+            | Action::Gains { .. }
+            | Action::Journal { .. }
+            | Action::Dump { .. }
+            | Action::Restore(_)
+            | Action::Verify { .. } => None,
         }
     }
 
@@ -48,25 +56,6 @@ impl Call<'_> {
             Notes::All => u64::MAX,
             Notes::Ten | Notes::Quiet => TEN,
         }
-    }
-}
-
-/// Returns the path of the book that an action names, or nothing.
-pub fn path_of(action: &Action) -> &str {
-    match action {
-        Action::Check { .. } => "",
-        Action::Init { book }
-        | Action::Migrate { book }
-        | Action::PostRow { book, .. }
-        | Action::Holdings { book, .. }
-        | Action::Gains { book, .. }
-        | Action::Journal { book }
-        | Action::Dump { book }
-        | Action::Verify { book, .. } => book.as_str(),
-        Action::Post(post) => post.book.as_str(),
-        Action::Import(import) => import.book.as_str(),
-        Action::ImportBy(import) => import.book.as_str(),
-        Action::Restore(restore) => restore.book.as_str(),
     }
 }
 

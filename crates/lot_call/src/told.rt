@@ -153,7 +153,14 @@ fn source_of<'a>(
             (Source::Row { batch, reference }, 1)
         }
         Action::Restore(_) => (Source::Dump, 1),
-        _ => (Source::Text { batch: "check" }, 1),
+        Action::Check { .. }
+        | Action::Init { .. }
+        | Action::Migrate { .. }
+        | Action::Holdings { .. }
+        | Action::Gains { .. }
+        | Action::Journal { .. }
+        | Action::Dump { .. }
+        | Action::Verify { .. } => (Source::Text { batch: "check" }, 1),
     }
 }
 

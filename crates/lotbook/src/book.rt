@@ -4,11 +4,10 @@ ghost use Rattle.std.specs.Prelude.{◌≡◌, None, false};
 
 use crate::answer::answer;
 use crate::comparison::{Old, show_differences, take_up};
-use lot_call::{Call, out_of_memory, say_why};
-use lot_cli::{Action, Effect, Restore, Served, Status};
+use lot_call::{Call, access_of, out_of_memory, say_why};
+use lot_cli::{Action, Restore, Served, Status};
 use lot_files::{
-    Access, BookFile, Cause, Opened, ensure_openable, is_missing, library_path, open_book,
-    open_nothing,
+    BookFile, Cause, Opened, ensure_openable, is_missing, library_path, open_book, open_nothing,
 };
 use lot_stream::{DONE, REFUSED, STOPPED, UNUSABLE};
 use sqlite::{Connection, FileStore};
@@ -64,19 +63,7 @@ fn on_path(call: &Call<'_>, path: &str, old: Option<Old<'_>>) -> Result<u8, Caus
     if !matches!(call.action, Action::Init { .. } | Action::Restore(_)) && is_missing(rt, path) {
         return on_nothing(call);
     }
-    let access = match (call.action, call.effect) {
-        (
-            Action::Holdings { .. }
-            | Action::Gains { .. }
-            | Action::Journal { .. }
-            | Action::Dump { .. }
-            | Action::Verify { .. },
-            _,
-        ) => Access::Read,
-        (_, Effect::Keep) => Access::Write,
-        (_, Effect::DryRun) => Access::Copy,
-    };
-    match open_book(rt, path, access, call.failure)? {
+    match open_book(rt, path, access_of(call.action, call.effect), call.failure)? {
         Opened::File(file) => Ok(on_file(call, file, old)),
         Opened::Copy(copy) => Ok(on_copy(call, copy, old)),
     }
