@@ -1,4 +1,4 @@
-"""Tells of each crate whether the lines of its contracts fit into 100 columns: those that begin a clause, an arrow or a bracket.
+"""Tells of each crate whether the lines of its contracts fit into 100 columns: those that begin a clause or say a fact.
 
     width.py
 """
@@ -14,7 +14,7 @@ sys.path.append(os.path.join(os.path.dirname(os.path.abspath(__file__)), "..", "
 import tally
 
 MOST = 100
-PART = re.compile(r"\s+(ensures|requires|→|×|⊎|↔|\(|λ)")
+PART = re.compile(r"\s+(?!//|ghost use)(ensures|requires|(?=.*[≡≢→↔×⊎≤λ]))")
 
 
 def wide_lines():
