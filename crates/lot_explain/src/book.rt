@@ -1,11 +1,11 @@
 //! The facts of a refusal that its book has, as they stand behind the last command.
 
-use crate::call::Naming;
 use crate::fact::without_sign;
 use crate::form::is_by_form;
 use crate::nearest::nearest;
 use crate::refused::Refused;
 use crate::shown::Shown;
+use crate::transcript::Naming;
 use lot_base::{Account, Commodity, Day};
 use lot_command::canonical::body;
 use lot_command::{Amount, Command, Cost, Posting};

@@ -2,13 +2,13 @@
 //! completion isn't accepted.
 
 use crate::bound::{excess, least_bound};
-use crate::call::Naming;
 use crate::explained::find;
 use crate::fact::postings_of;
 use crate::finding::Finding;
 use crate::refused::{Refused, item};
 use crate::said::{Said, heard};
 use crate::split::why;
+use crate::transcript::Naming;
 use lot_base::{Account, Commodity};
 use lot_command::canonical::body;
 use lot_command::{Command, Posting};
