@@ -3,7 +3,7 @@
 //!
 //! - `codes`: the codes, as data, and `causes`: those of faulty rows; `explained`: the text on one (`explain`), or on all codes
 //!   (`list`); `nearest`: which of some names is meant.
-//! - `call`: what there is to say of a call (`notes`), from what it read and said (`said`); a
+//! - `transcript`: what there is to say of a call (`notes`), from what it read and said (`said`); a
 //!   `notebook` has as many lines as are wanted, each with its `place`.
 //! - `faulty`: lines and rows that are faulty, with the part that is at fault (`culprit`), and the
 //!   name that may have been meant (`commodity`).
