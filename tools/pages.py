@@ -569,9 +569,9 @@ def prover_time(below):
 
 
 def headline():
-    """The law that the_headline is, as lot_cli has it."""
-    text = (CRATES / "lot_cli/src/laws.rt").read_text()
-    at = text.index("pub fn the_headline()")
+    """The law of the headline, as lot_headline has it."""
+    text = (CRATES / "lot_headline/src/headline.rt").read_text()
+    at = text.index("pub fn calls_keep_the_headline")
     yield "```text"
     yield text[at : text.index("\n{}", at)]
     yield "```"

@@ -1,5 +1,5 @@
 -- What is applied all or none is a session that keeps its commands so.
-use Rattle.std.proofs.Common.{◌≡◌, ◌≢◌, ◌∙◌, ◌⊎◌, inl, inr, ap, refl, subst, sym, arith, append-nil, IsTrue, List, [], ◌∷◌, ◌++◌, length, Option}
+use Rattle.std.proofs.Common.{◌≡◌, ◌≢◌, ◌∙◌, ◌⊎◌, inl, inr, ap, refl, subst, suc, sym, arith, append-nil, IsTrue, List, [], ◌∷◌, ◌++◌, length, Option}
 use Rattle.std.proofs.lemmas.List.{length-append}
 use Rattle.std.specs.List.{AllByRecursion}
 use Rattle.sqlite.specs.Effect.{Database}
@@ -25,9 +25,17 @@ use Rattle.lot_store.specs.declared.fault.StoreFault.{StoreFault}
 use Rattle.lot_store.specs.declared.fault.StoreFault.TheVariants.{Damaged, Device, InDoubt, Memory, NeedsReopen}
 use Rattle.lot_table.specs.Book.{Holds}
 use Rattle.lot_cli.specs.AllOrNone.{AppliedOn, that_count}
-use Rattle.lot_cli.specs.Headline.{AcknowledgeAll, AllOrNoneLeaves, AreAllKept}
+use Rattle.lot_cli.specs.Sessions.{AcknowledgeAll, AllOrNoneLeaves, AreAllKept}
 use Rattle.lot_cli.specs.Reopen.{LeavesOneOf}
-use Rattle.lot_cli.proofs.HeadlineLemmas.{as_many}
+
+-- ---- commands judged one after another
+
+-- each has its verdict
+pub as_many : (before after : List Entry) (done : List (Key × Command)) (vs : List Verdict) → JudgesAll before done vs after → length done ≡ length vs
+as_many before after [] [] all = refl
+as_many before after [] (v ∷ vs) all = absurd all
+as_many before after (c ∷ done) [] all = absurd all
+as_many before after (c ∷ done) (v ∷ vs) all = ap suc (as_many all.0 after done vs all.2)
 
 -- ---- verdicts together
 

@@ -1,12 +1,12 @@
 -- A book that is made in a database, or not (docs/RULES.md, The program).
 use Rattle.std.specs.Prelude.{◌≡◌, ◌≢◌, ◌⊎◌, ℕ, List, [], IsTrue, Option, codes}
 use Rattle.sqlite.specs.State.{HasCleanDisk, KeepsCommit, State, Survives}
-use Rattle.lot_stored.specs.StandFor.{Left, Stands}
+use Rattle.lot_stored.specs.StandFor.{Stands}
 use Rattle.lot_io.specs.Writes.{WritesMade}
 use Rattle.lot_report.specs.Printed.{line}
 use Rattle.lot_cli.specs.Says.{Halts, Succeeds, Told}
 use Rattle.lot_cli.specs.declared.halt.Halt.TheVariants as halt
-use Rattle.lot_store.specs.Create.{IsHandedBack, RefusedFor}
+use Rattle.lot_store.specs.Create.{IsHandedBack, LeavesNew, RefusedFor}
 use Rattle.lot_store.specs.declared.fault.CreateFault.{CreateFault}
 use Rattle.lot_store.specs.declared.fault.CreateFault.TheVariants.{NotABook}
 use Rattle.lot_table.specs.Shape.{schema_of}
@@ -20,7 +20,7 @@ pub record IsMade (old new : State) : Type 0 where
   pub made : HasCleanDisk new → Stands new []
   pub committed : HasCleanDisk new → IsTrue new.is_open × (new.committed ≡ new.now)
   pub empty : old.now.schema ≡ schema_of []
-  pub crash : Survives old new (λ trees. Left trees [])
+  pub crash : Survives old new (LeavesNew old)
 
 -- none is made, for what the fault says, and the database is handed back as it was; after a commit that failed a crash may
 -- leave one
@@ -29,7 +29,7 @@ pub record IsNotMade (old new : State) (fault : CreateFault) : Type 0 where
   pub other : old.now.schema ≢ schema_of [] → fault ≡ NotABook
   pub handed_back : HasCleanDisk new → IsHandedBack old new
   pub kept : HasCleanDisk new → KeepsCommit old new
-  pub crash : Survives old new (λ trees. Left trees [])
+  pub crash : Survives old new (LeavesNew old)
 
 abbrev pub Makes : State → State → Option (List ℕ) → Option (List ℕ) → WritesMade → Told → Type 0
 Makes old new before written calls told =

@@ -8,8 +8,7 @@ pub mod Runs
 pub mod Reports
 pub mod Check
 pub mod Serve
-pub mod Headline
-pub mod Again
+pub mod Sessions
 pub mod Reopen
 pub mod AllOrNone
 pub mod Shows

@@ -27,7 +27,7 @@ use Rattle.lot_input.specs.Rows.{FileMeans, IsFaultyFile}
 use Rattle.lot_input.specs.Text.{IsFaultyText, RowMeans, TextMeans}
 use Rattle.lot_input.specs.declared.fault.InputFault.{InputFault}
 use Rattle.lot_cli.specs.AllOrNone.{that_count}
-use Rattle.lot_cli.specs.Headline.{AllOrNoneLeaves}
+use Rattle.lot_cli.specs.Sessions.{AllOrNoneLeaves}
 use Rattle.lot_cli.specs.Reopen.{LeavesOneOf}
 use Rattle.lot_cli.specs.Says.{Halts, Told}
 use Rattle.lot_io.specs.Writes.{IsFlushed, WritesMade}

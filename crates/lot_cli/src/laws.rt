@@ -9,7 +9,7 @@ ghost use Rattle.sqlite_store.specs.declared.store.FileStore.{FileStore};
 ghost use Rattle.lot_book.specs.Book.{IsBookIn};
 ghost use Rattle.lot_book.specs.Edition.{After};
 ghost use Rattle.lot_book.specs.Facts.{Entry, text_under};
-ghost use Rattle.lot_book.specs.Judged.{JudgesAll, JudgesOn};
+ghost use Rattle.lot_book.specs.Judged.{JudgesOn};
 ghost use Rattle.lot_book.specs.declared.refusal.Refusal.TheVariants.{KeyReused};
 ghost use Rattle.lot_book.specs.declared.verdict.Verdict.{Verdict};
 ghost use Rattle.lot_book.specs.declared.verdict.Verdict.TheVariants.{Accepted, Refused, Repeated};
@@ -23,18 +23,10 @@ ghost use Rattle.lot_command.specs.Sayable.{IsSayable};
 ghost use Rattle.lot_input.specs.Keyed.{import_source, row_key};
 ghost use Rattle.lot_atomic.specs.declared.all_or_none.Ended.{Ended};
 ghost use Rattle.lot_atomic.specs.declared.all_or_none.Ended.TheVariants.{Kept};
-ghost use Rattle.lot_cli.specs.Again.{AllSentAgain, AreKeptOnce, ComesAgain, IsOneRun, SentAgain};
 ghost use Rattle.lot_cli.specs.AllOrNone.{AppliedOn, that_count};
 ghost use Rattle.lot_rounding.specs.declared.asked.Asked.{Asked};
 ghost use Rattle.lot_rounding.specs.declared.rounding.Rounding.{Rounding};
-ghost use Rattle.lot_cli.specs.Headline.{
-  AllOrNoneLeaves,
-  AreAllKept,
-  Headline,
-  Sent,
-  SessionLeaves,
-  StopsLeave,
-};
+ghost use Rattle.lot_cli.specs.Sessions.{AllOrNoneLeaves, AreAllKept, Sent, SessionLeaves};
 ghost use Rattle.lot_cli.specs.Reopen.{IsOpenedAgain, LeavesOneOf, StandsForOneOf};
 ghost use Rattle.lot_stored.specs.StandFor.{Left, Stands};
 ghost use Rattle.lot_book_report.specs.Dump.{dump_text};
@@ -52,54 +44,6 @@ ghost use Rattle.lot_cli.specs.Says.{Told};
 
 use sqlite::Alter;
 use sqlite_disk::Disk;
-
-/// The headline. Sessions follow one another on a book. Each may be stopped within any write, and the next one begins on what
-/// the stop left.
-///
-/// What stands in the end is the book of a prefix of the accepted commands of each session. The prefix holds every acknowledged
-/// command. In that book each commodity's units at cost are those bought less those sold. Each realised gain is its proceeds
-/// less the cost of the lots that its posting took.
-///
-/// A session may keep each of its commands in a commit of its own. Then the prefix has at most one more than was acknowledged.
-/// Or it keeps them in one commit, all or none. Then the prefix is none of them or, where none is refused, all; and its replies
-/// acknowledge all together, or nothing.
-///
-/// A book that was made has no entries before the first session, and place of migration 0.
-pub fn the_headline()
-    ensures made { (sessions : List Sent) (book : List Entry)
-        → StopsLeave [] sessions book → Headline 0 [] sessions book }
-    ensures goes_on { (place : ℕ) (before : List Entry) (sessions : List Sent) (book : List Entry)
-        → place ≤ length before → IsBookIn (After place) before
-        → StopsLeave before sessions book → Headline place before sessions book }
-{}
-
-/// Commands that are each kept in a commit are sent again from the first one without a reply, as often as a session is stopped.
-/// Once a session is complete, the book is that of one uninterrupted run. The replies are those of that run, but the first
-/// command of a session may get `repeat` in place of `accepted`.
-///
-/// Nothing else is sent in between. A list that is sent again from its first command may come to another book. A sale that was
-/// refused may then be accepted, since what was bought after it is there now.
-pub fn sending_again_is_one_run()
-    ensures { (before book : List Entry) (commands : List (Key × Command)) (replied : List Verdict)
-        (again : List (List Verdict))
-        → SentAgain before commands replied again book
-        → IsOneRun before commands replied again book }
-{}
-
-/// Commands that are kept all or none are sent again, all of them, as often as a session is stopped, and nothing else in
-/// between. They are kept once, or not at all; and where a session acknowledged them, they are kept.
-///
-/// Where they had been kept, each is a repeat when they come again, and the book stays as it is. Else it is as if they hadn't
-/// been sent.
-pub fn sending_all_or_none_again_acts_once()
-    ensures often { (before book : List Entry) (commands : List (Key × Command))
-        (sessions : List (List Verdict))
-        → AllSentAgain before commands sessions book → AreKeptOnce before commands sessions book }
-    ensures comes { (before book after : List Entry) (commands : List (Key × Command))
-        (replied again : List Verdict)
-        → AllOrNoneLeaves before commands replied book → JudgesAll book commands again after
-        → ComesAgain before commands book again after }
-{}
 
 /// A row of a broker file acts once. Where it is accepted as it is handed in, its text stands under its key. While it stands
 /// there, the row is a repeat where it comes again to the same accounts, with its cash rounded to as many decimals, and another

@@ -78,7 +78,7 @@ priced_sales_have_a_gain sale = priced sale.price sale
 
 -- ---- what a gain is
 
-the_gain : (price : Price) (sale : SaleParts) (gain : Gain) → gain_at (Some price) sale ≡ Some gain
+pub the_gain : (price : Price) (sale : SaleParts) (gain : Gain) → gain_at (Some price) sale ≡ Some gain
     → gain_from (proceeds_at price sale.units sale.legs) (cost_of sale.legs) ≡ gain
 the_gain price sale gain is = elim (cases_Bool (has_other_currency (currency_of price) sale.legs)) [
   | inl other ↦ let none = rw other at is in absurd cc

@@ -54,6 +54,7 @@ impl<W> Witness<W> {
         ensures failure { self.new.heard.failure ≡ self.old.heard.failure }
         ensures begins { self.new.begins ≡ self.old.begins }
         ensures most { self.new.most ≡ self.old.most }
+        ensures writer { self.new.writer ≡ self.old.writer }
     {
         let Some(said) = said_in(line) else {
             return;
@@ -71,11 +72,14 @@ impl<W> Witness<W> {
 }
 
 /// Each line of a reply or of a fault is handed to the writer whole. It is heard once, whether it can
-/// be written or not: what it says is so.
+/// be written or not: what it says is so. What the writer took of it is told, and nothing else is written.
 impl<W: Write> Write for Witness<W> {
+    ghost contents = { λ witness. W.contents witness.writer };
+
     fn write(&mut self, buf: &[u8]) -> io::Result<usize>
         ensures bound { WritesAtMost result buf.now }
-        ensures bytes { WriteAppends None None result buf.now }
+        ensures bytes { WriteAppends (W.contents self.old.writer) (W.contents self.new.writer)
+            result buf.now }
         ensures failure { IfErr result (λ error. error_kind error ≢ ErrorKind.Interrupted
             → self.new.heard.failure ≡ Some error) }
         ensures written { IfOk result (λ count. 0 < count
@@ -102,7 +106,7 @@ impl<W: Write> Write for Witness<W> {
     }
 
     fn flush(&mut self) -> io::Result<()>
-        ensures bytes { Keeps None None }
+        ensures bytes { Keeps (W.contents self.old.writer) (W.contents self.new.writer) }
         ensures failure { IfErr result (λ error. self.new.heard.failure ≡ Some error) }
         ensures flushed { IsOk result → self.new.heard.failure ≡ self.old.heard.failure }
         ensures course { self.new.heard.course ≡ self.old.heard.course }

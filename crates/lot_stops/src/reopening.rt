@@ -2,7 +2,7 @@
 
 ghost use Rattle.std.specs.Prelude.{IfOk, List};
 ghost use Rattle.lot_book.specs.Facts.{Entry};
-ghost use Rattle.lot_cli.specs.Headline.{Sent, SessionLeaves};
+ghost use Rattle.lot_cli.specs.Sessions.{Sent, SessionLeaves};
 ghost use Rattle.lot_cli.specs.Reopen.{LeavesOneOf, StandsForOneOf};
 ghost use Rattle.sqlite.specs.Files.{file_state};
 ghost use Rattle.sqlite.specs.State.{HasCleanDisk};

@@ -2,11 +2,13 @@
 use Rattle.std.specs.Prelude.{◌≡◌, ◌≢◌, ◌⊎◌, ◌<ℤ◌, ◌≤ℤ◌, ℕ, ℤ, false, IsTrue, List, [], ◌∷◌, codes, map, pos, Err, Ok, Result}
 use Rattle.sqlite.specs.Order.{Row}
 use Rattle.sqlite.specs.State.{Shown, State}
+use Rattle.sqlite.specs.Tree.{Trees}
 use Rattle.sqlite.specs.declared.error.Error.{Error}
 use Rattle.sqlite.specs.declared.error.Error.TheVariants.{SqliteFailure}
 use Rattle.sqlite.specs.declared.error.ErrorCode.TheVariants as code
 use Rattle.sqlite_disk.specs.Disk.{MoreFaults}
 use Rattle.lot_stored.specs.Rows.{current_edition, marked, migration_row, this_edition}
+use Rattle.lot_stored.specs.StandFor.{Left}
 use Rattle.lot_rows.specs.Book.{book_cells}
 use Rattle.lot_rows.specs.Tables.{Has, Tables, no_rows_yet}
 use Rattle.lot_rows.specs.declared.book.BookRow.{BookRow}
@@ -55,6 +57,10 @@ RefusedFor old new create.NotABook = IsTrue old.is_open → old.now.schema ≢ s
 RefusedFor old new create.Device = old.now.schema ≡ schema_of [] → DiskFailed old new
 RefusedFor old new create.InDoubt = MoreFaults old.faults new.faults
 RefusedFor old new create.Memory = Unit {0}
+
+-- what a crash may leave anew: a book without entries, in a database that had no tables
+abbrev pub LeavesNew : State → Trees → Type 0
+LeavesNew old trees = (old.now.schema ≡ schema_of []) × Left trees []
 
 -- the tables of a book without entries, whose place of migration is 0
 abbrev pub no_entries_yet : Tables

@@ -3,6 +3,7 @@
 //!
 //! - `commands`: the canonical texts of commands.
 //! - `copies`: copies of values that the program doesn't copy.
+//! - `lots`: what an inventory holds, and which lots units take in each order.
 //! - `faults`: the texts of faults, and which of several faults of a number is told.
 //! - `nobody`: a receiver of what a call tells as it runs.
 //! - `opening_numbers`: the lots that legs leave, with their opening numbers.
@@ -26,6 +27,8 @@ mod courses;
 mod disk;
 #[cfg(test)]
 mod faults;
+#[cfg(test)]
+mod lots;
 #[cfg(test)]
 mod nobody;
 #[cfg(test)]

@@ -1,1 +1,2 @@
+mod SelectLemmas
 pub mod VerifyLemmas

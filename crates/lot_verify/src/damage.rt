@@ -1,6 +1,12 @@
+ghost use Rattle.std.specs.Prelude.{IfSome};
+ghost use Rattle.lot_table.specs.Statement.{IsSelect};
+ghost use Rattle.lot_walk.specs.Step.{StaysOrGoesBack};
+ghost use Rattle.sqlite.specs.Held.{state};
+ghost use Rattle.sqlite.specs.State.{HasCleanDisk, Survives};
+
 use lot_audit::{Spot, Table, Watch, judge_book};
 use lot_rows::{account, allowed, commodity, head, lot, opening, plain, price};
-use lot_table::Fault;
+use lot_table::{Fault, Queryable};
 use sqlite::types::ValueRef;
 use sqlite::{Alter, Connection};
 
@@ -24,8 +30,12 @@ impl Watch for LastLook {
 }
 
 /// Says on standard error where the book of that path is damaged, with a connection to it. The book
-/// is judged once more, and what is looked at then is followed.
-pub fn say_where<S: Alter>(rt: &HostRuntime, path: &str, conn: &mut Connection<S>) {
+/// is judged once more, and what is looked at then is followed. It is only read.
+pub fn say_where<S: Alter>(rt: &HostRuntime, path: &str, conn: &mut Connection<S>)
+    ensures left { HasCleanDisk (state S.Store conn.new)
+        → StaysOrGoesBack (state S.Store conn.old) (state S.Store conn.new) }
+    ensures crash { Survives (state S.Store conn.old) (state S.Store conn.new) (λ _. ⊥) }
+{
     let mut last = LastLook {
         spot: None,
         rows: 0,
@@ -68,18 +78,27 @@ pub fn say_where<S: Alter>(rt: &HostRuntime, path: &str, conn: &mut Connection<S
 }
 
 /// Returns the key of the row at that place in a table, counted from 1, where it can be read.
-fn key_of<S: Alter>(conn: &mut Connection<S>, table: Table, place: i64) -> Option<String> {
+fn key_of<S: Alter>(conn: &mut Connection<S>, table: Table, place: i64) -> Option<String>
+    ensures left { HasCleanDisk (state S.Store conn.new)
+        → StaysOrGoesBack (state S.Store conn.old) (state S.Store conn.new) }
+    ensures crash { Survives (state S.Store conn.old) (state S.Store conn.new) (λ _. ⊥) }
+{
     if place < 1 {
         return None;
     }
-    let row = conn
-        .query_row(query_of(table)?, &[ValueRef::Int(place - 1)])
-        .ok()?;
-    row.get(0).ok()
+    let Some(query) = query_of(table) else {
+        return None;
+    };
+    match conn.ask(query, &[ValueRef::Int(place - 1)]) {
+        Ok(rows) => rows.first()?.get(0).ok(),
+        Err(_) => None,
+    }
 }
 
 /// Returns the query for the key of the row at a place in a table whose rows are looked at.
-fn query_of(table: Table) -> Option<&'static str> {
+fn query_of(table: Table) -> Option<&'static str>
+    ensures { IfSome result (λ query. IsSelect query.now) }
+{
     match table {
         Table::Account => Some(account::SHOW),
         Table::Allowed => Some(allowed::SHOW),

@@ -1,4 +1,4 @@
-use Rattle.lot_cli.specs.Headline.{SessionLeaves}
+use Rattle.lot_cli.specs.Sessions.{SessionLeaves}
 use Rattle.lot_cli.proofs.ReopenLemmas.{found_after_stop, found_in_files}
 use Rattle.lot_cli.proofs.laws.a_stop_leaves_what_is_found_again.Goals as goal
 

@@ -1,4 +1,4 @@
-use Rattle.lot_cli.specs.Headline.{SessionLeaves}
+use Rattle.lot_cli.specs.Sessions.{SessionLeaves}
 use Rattle.lot_stops.proofs.ReopeningLemmas.{found_after_crash, if_both}
 use Rattle.lot_stops.proofs.reopening.stop_and_open.Goals as goal
 

@@ -1,6 +1,6 @@
 -- The headline: what stands in a file after sessions that may each have been stopped within any write
 -- (docs/PROMISES.md, The headline).
-use Rattle.std.specs.Prelude.{◌≡◌, ◌⊎◌, ℕ, suc, ◌≤◌, ◌+ℤ◌, ◌-ℤ◌, neg_ℤ, List, [], ◌∷◌, ◌++◌, length, Some, ⊤}
+use Rattle.std.specs.Prelude.{◌≡◌, ◌⊎◌, ℕ, suc, ◌≤◌, ◌+ℤ◌, neg_ℤ, List, [], ◌∷◌, ◌++◌, length, Some, ⊤}
 use Rattle.std.specs.List.{AllByRecursion}
 use Rattle.lot_args.specs.declared.action.Keeping.{Keeping}
 use Rattle.lot_args.specs.declared.action.Keeping.TheVariants.{AllOrNone, Each}
@@ -11,62 +11,15 @@ use Rattle.lot_inv.specs.Inventory.{sum}
 use Rattle.lot_book.specs.Book.{IsBookIn}
 use Rattle.lot_book.specs.Edition.{After}
 use Rattle.lot_book.specs.Facts.{Entry, legs_of, text_under}
-use Rattle.lot_book.specs.Gain.{cost_of, gain_of}
 use Rattle.lot_book.specs.Judged.{JudgesAll}
 use Rattle.lot_book.specs.Leg.{inventory_of}
-use Rattle.lot_book.specs.Sale.{SaleParts}
-use Rattle.lot_book.specs.declared.gain.Gain.{Gain}
 use Rattle.lot_book.specs.declared.verdict.Verdict.{Verdict}
 use Rattle.lot_book.specs.declared.verdict.Verdict.TheVariants.{Accepted, Refused, Repeated}
 use Rattle.lot_laws.specs.Laws.{bought, sold}
 use Rattle.lot_stored.specs.Kept.{SalesOf}
 use Rattle.lot_store.specs.Run.{count_refused}
-use Rattle.lot_store.specs.Session.{StopLeaves}
-use Rattle.lot_walk.specs.Gains.{HasItsLegs}
-
--- ---- commands that are kept all or none
-
--- Their replies acknowledge them: each was replied to, and none is refused.
-abbrev pub AcknowledgeAll : List (Key × Command) → List Verdict → Type 0
-AcknowledgeAll commands replied = (length replied ≡ length commands) × (count_refused replied ≡ 0)
-
--- the book after all of them, where none is refused
-abbrev pub AreAllKept : List Entry → List (Key × Command) → List Entry → Type 0
-AreAllKept before commands book =
-    (verdicts : List Verdict) × JudgesAll before commands verdicts book × (count_refused verdicts ≡ 0)
-
--- A stop of a session whose commands are kept all or none, in which these verdicts were replied to, may leave this book.
-pub record AllOrNoneLeaves (before : List Entry) (commands : List (Key × Command)) (replied : List Verdict) (book : List Entry) : Type 0 where
-  pub verdicts : List Verdict
-  pub whole : List Entry
-  pub judged : JudgesAll before commands verdicts whole
-  -- the verdicts without a reply
-  pub more : List Verdict
-  pub replies : verdicts ≡ replied ++ more
-  -- It is the book after all of them, where none is refused, or the book before them, where the replies don't acknowledge them.
-  pub leaves : ((count_refused verdicts ≡ 0) × (book ≡ whole)) ⊎ ((¬ AcknowledgeAll commands replied) × (book ≡ before))
-
--- ---- sessions
-
--- The commands that were sent in a session, with their keys, which commits keep them, and the verdicts that were replied to. Where
--- commands that are kept all or none end at a fault, no reply counts.
-pub record Sent : Type 0 where
-  pub keeping : Keeping
-  pub commands : List (Key × Command)
-  pub replied : List Verdict
-
--- what a stop of a session may leave, by the commits that keep its commands
-abbrev pub LeavesBy : Keeping → List Entry → List (Key × Command) → List Verdict → List Entry → Type 0
-LeavesBy Each before commands replied book = StopLeaves before commands replied book
-LeavesBy AllOrNone before commands replied book = AllOrNoneLeaves before commands replied book
-
-abbrev pub SessionLeaves : List Entry → Sent → List Entry → Type 0
-SessionLeaves before sent book = LeavesBy sent.keeping before sent.commands sent.replied book
-
--- Sessions follow one another, each on a book that a stop of the one before it leaves; a stop of the last leaves this book.
-abbrev pub StopsLeave : List Entry → List Sent → List Entry → Type 0
-StopsLeave before [] book = book ≡ before
-StopsLeave before (sent ∷ more) book = (mid : List Entry) × SessionLeaves before sent mid × StopsLeave mid more book
+use Rattle.lot_cli.specs.Sessions.{AcknowledgeAll, Sent}
+use Rattle.lot_headline.specs.Realised.{IsRealised, Sold}
 
 -- ---- a prefix of the accepted commands
 
@@ -131,18 +84,6 @@ HoldsBy AllOrNone book commands replied = AcknowledgeAll commands replied → Ar
 abbrev pub HoldsAcknowledged : List Entry → Sent → Type 0
 HoldsAcknowledged book sent = HoldsBy sent.keeping book sent.commands sent.replied
 
--- ---- gains
-
--- a realised gain is the proceeds of its sale less the cost of the lots that it takes
-abbrev pub IsLessCost : SaleParts → Type 0
-IsLessCost sale = (gain : Gain) → gain_of sale ≡ Some gain → gain.gain ≡ gain.proceeds -ℤ cost_of sale.legs
-
--- The sales of a book: the lots that each takes are those of the legs of its posting, which were booked by the account's
--- method.
-pub record HasGains (book : List Entry) (sales : List (ℕ × (ℕ × SaleParts))) : Type 0 where
-  pub lots : AllByRecursion (HasItsLegs (legs_of book)) sales
-  pub gains : AllByRecursion (λ sale. IsLessCost sale.1.1) sales
-
 -- ---- the headline
 
 -- What stands in a file after these sessions on a book with that place of migration, which had these entries before. A
@@ -157,5 +98,6 @@ pub record Headline (place : ℕ) (before : List Entry) (sessions : List Sent) (
   -- each commodity's units at cost are those bought less those sold
   pub units : (account commodity : List ℕ) → sum (inventory_of (legs_of book) account) commodity
       ≡ bought book account commodity +ℤ neg_ℤ (sold book account commodity)
-  -- each realised gain is its proceeds less the cost of its lots
-  pub gains : (sales : List (ℕ × (ℕ × SaleParts))) → SalesOf (After place) book sales → HasGains book sales
+  -- each realised gain is its proceeds less the cost of the lots that the method names
+  pub gains : (sales : List Sold) → SalesOf (After place) book sales
+      → AllByRecursion (IsRealised (After place) book) sales

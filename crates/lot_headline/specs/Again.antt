@@ -8,7 +8,7 @@ use Rattle.lot_book.specs.Judged.{JudgesAll}
 use Rattle.lot_book.specs.declared.verdict.Verdict.{Verdict}
 use Rattle.lot_book.specs.declared.verdict.Verdict.TheVariants.{Accepted, Repeated}
 use Rattle.lot_store.specs.Session.{StopLeaves}
-use Rattle.lot_cli.specs.Headline.{AcknowledgeAll, AllOrNoneLeaves, AreAllKept}
+use Rattle.lot_cli.specs.Sessions.{AcknowledgeAll, AllOrNoneLeaves, AreAllKept}
 
 -- ---- commands that are each kept in a commit
 

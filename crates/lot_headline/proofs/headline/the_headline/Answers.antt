@@ -1,5 +1,5 @@
-use Rattle.lot_cli.proofs.HeadlineLemmas.{headline, headline_of_made}
-use Rattle.lot_cli.proofs.laws.the_headline.Goals as goal
+use Rattle.lot_headline.proofs.HeadlineLemmas.{headline, headline_of_made}
+use Rattle.lot_headline.proofs.headline.the_headline.Goals as goal
 
 pub returns-clause-made : goal.returns-clause-made
 returns-clause-made c = headline_of_made

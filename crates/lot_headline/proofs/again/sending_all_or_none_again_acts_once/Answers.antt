@@ -1,5 +1,5 @@
-use Rattle.lot_cli.proofs.HeadlineLemmas.{comes_again, kept_once}
-use Rattle.lot_cli.proofs.laws.sending_all_or_none_again_acts_once.Goals as goal
+use Rattle.lot_headline.proofs.HeadlineLemmas.{comes_again, kept_once}
+use Rattle.lot_headline.proofs.again.sending_all_or_none_again_acts_once.Goals as goal
 
 pub returns-clause-often : goal.returns-clause-often
 returns-clause-often c before book commands sessions = kept_once before commands book sessions

@@ -1,5 +1,5 @@
 -- Sessions that follow one another, and a list that is sent again.
-use Rattle.std.proofs.Common.{◌≡◌, ◌∙◌, ◌≤◌, ◌-ℤ◌, inl, inr, ap, refl, subst, sym, arith, append_assoc, append-nil, ℕ, suc, List, [], ◌∷◌, ◌++◌, length, drop, Option, Some, None, cond}
+use Rattle.std.proofs.Common.{◌≡◌, ◌∙◌, ◌≤◌, inl, inr, ap, refl, subst, sym, arith, append_assoc, append-nil, ℕ, suc, List, [], ◌∷◌, ◌++◌, length, drop, Option, Some, None, cond}
 use Rattle.std.specs.List.{AllByRecursion}
 use Rattle.lot_args.specs.declared.action.Keeping.{Keeping}
 use Rattle.lot_args.specs.declared.action.Keeping.TheVariants.{AllOrNone, Each}
@@ -10,33 +10,30 @@ use Rattle.lot_command.specs.Canonical.{canonical}
 use Rattle.lot_command.specs.declared.command.Command.{Command}
 use Rattle.lot_command.specs.declared.command.Command.TheVariants.{Opening, Closing, Declaring, Quoting, Transaction}
 use Rattle.lot_command.specs.declared.key.Key.{Key}
-use Rattle.lot_command.specs.declared.price.Price.{Price}
 use Rattle.lot_command.specs.declared.transaction.Transaction.{Transaction as TransactionOf}
 use Rattle.lot_book.proofs.CaseLemmas.{by_bool}
 use Rattle.lot_book.specs.Book.{IsBookIn, entry_of}
 use Rattle.lot_book.specs.Booking.{All, Bookings, Stopped, TieRule}
 use Rattle.lot_book.specs.Edition.{After, Second, ties_in}
 use Rattle.lot_book.specs.Facts.{Entry, Facts, facts_of, text_under}
-use Rattle.lot_book.specs.Gain.{cost_of, currency_of, gain_at, gain_from, has_other_currency, proceeds_at}
 use Rattle.lot_book.specs.Judged.{JudgesAll, JudgesOn}
-use Rattle.lot_book.specs.Sale.{SaleParts}
 use Rattle.lot_book.specs.Step.{DecidesByUnder, JudgesTransactionUnder, JudgesUnder, Refuse, Repeat, accept_unless, concluded}
-use Rattle.lot_book.specs.declared.gain.Gain.{Gain}
 use Rattle.lot_book.specs.declared.leg.Leg.{Leg}
 use Rattle.lot_book.specs.declared.refusal.Refusal.{Refusal}
 use Rattle.lot_book.specs.declared.refusal.Refusal.TheVariants.{KeyReused}
 use Rattle.lot_book.specs.declared.verdict.Verdict.{Verdict}
 use Rattle.lot_book.specs.declared.verdict.Verdict.TheVariants.{Accepted, Refused, Repeated}
-use Rattle.lot_laws.proofs.GainLaws.{a_gain_is_proceeds_less_cost}
 use Rattle.lot_laws.proofs.JudgedLaws.{judged_alike, judged_book_in, some_judged}
 use Rattle.lot_laws.proofs.KeyLaws.{accepted_stands, is_repeat, remains}
 use Rattle.lot_laws.proofs.LawUnits.{held_as_bought}
 use Rattle.lot_laws.proofs.MigrationLaws.{judged_behind_place}
 use Rattle.lot_store.specs.Run.{count_refused}
 use Rattle.lot_store.specs.Session.{IsAfter, StopLeaves}
-use Rattle.lot_walk.proofs.SaleLegLemmas.{sale_legs}
-use Rattle.lot_cli.specs.Again.{AllSentAgain, AreBehind, AreKeptOnce, ComesAgain, IsOneRun, SentAgain}
-use Rattle.lot_cli.specs.Headline.{AcknowledgeAll, AddFirst, AddsFirst, AllOrNoneLeaves, AreAllKept, AreUnderKeys, Headline, HoldsAcknowledged, HoldsBy, IsLessCost, IsUnderKey, LeavesBy, Sent, StopsLeave, count_accepted}
+use Rattle.lot_headline.specs.Again.{AllSentAgain, AreBehind, AreKeptOnce, ComesAgain, IsOneRun, SentAgain}
+use Rattle.lot_cli.proofs.AllOrNoneLemmas.{as_many}
+use Rattle.lot_cli.specs.Sessions.{AcknowledgeAll, AllOrNoneLeaves, AreAllKept, LeavesBy, Sent, StopsLeave}
+use Rattle.lot_headline.specs.Headline.{AddFirst, AddsFirst, AreUnderKeys, Headline, HoldsAcknowledged, HoldsBy, IsUnderKey, count_accepted}
+use Rattle.lot_headline.proofs.RealisedLemmas.{all_realised}
 
 -- ---- commands judged one after another
 
@@ -65,12 +62,6 @@ judges_last before after (c ∷ (d ∷ done)) [] v all = absurd all.2
 judges_last before after (c ∷ done) (w ∷ vs) v all =
     let rest = judges_last all.0 after done vs v all.2 in
     (c ∷ rest.0, rest.1, rest.2, ap (λ (cs : List (Key × Command)). c ∷ cs) rest.3, (all.0, all.1, rest.4), rest.5)
-
-pub as_many : (before after : List Entry) (done : List (Key × Command)) (vs : List Verdict) → JudgesAll before done vs after → length done ≡ length vs
-as_many before after [] [] all = refl
-as_many before after [] (v ∷ vs) all = absurd all
-as_many before after (c ∷ done) [] all = absurd all
-as_many before after (c ∷ done) (v ∷ vs) all = ap suc (as_many all.0 after done vs all.2)
 
 -- they add an entry for each that is accepted
 grows : (before after : List Entry) (commands : List (Key × Command)) (vs : List Verdict) → JudgesAll before commands vs after
@@ -331,25 +322,6 @@ pass_all before (sent ∷ more) book (mid, stop, rest) =
       holds = (holds_still sent.keeping mid book all.still sent.commands sent.replied one.holds, all.holds);
     }
 
--- ---- gains
-
-less_cost_at : (price : Option Price) (sale : SaleParts) (gain : Gain) → gain_at price sale ≡ Some gain → gain.cost ≡ cost_of sale.legs
-less_cost_at None sale gain is = absurd cc
-less_cost_at (Some price) sale gain is = by_bool (has_other_currency (currency_of price) sale.legs)
-    (λ other. let none : None ≡ Some gain = sym (ap (λ b. cond b None (Some (gain_from (proceeds_at price sale.units sale.legs) (cost_of sale.legs)))) other) ∙ is in absurd cc)
-    (λ same.
-    let some : Some (gain_from (proceeds_at price sale.units sale.legs) (cost_of sale.legs)) ≡ Some gain =
-    sym (ap (λ b. cond b None (Some (gain_from (proceeds_at price sale.units sale.legs) (cost_of sale.legs)))) same) ∙ is in
-    let equal : gain_from (proceeds_at price sale.units sale.legs) (cost_of sale.legs) ≡ gain = cc in
-    sym (ap (λ (g : Gain). g.cost) equal))
-
-less_cost : (sale : SaleParts) → IsLessCost sale
-less_cost sale gain is = a_gain_is_proceeds_less_cost sale gain is ∙ ap (λ cost. gain.proceeds -ℤ cost) (less_cost_at sale.price sale gain is)
-
-all_less_cost : (sales : List (ℕ × (ℕ × SaleParts))) → AllByRecursion (λ (sale : ℕ × (ℕ × SaleParts)). IsLessCost sale.1.1) sales
-all_less_cost [] = tt
-all_less_cost (sale ∷ sales) = (less_cost sale.1.1, all_less_cost sales)
-
 -- ---- the headline
 
 pub headline : (place : ℕ) (before : List Entry) (sessions : List Sent) (book : List Entry) → place ≤ length before → IsBookIn (After place) before
@@ -361,7 +333,7 @@ headline place before sessions book placed was leave =
       accepted = all.adds;
       acknowledged = all.holds;
       units = λ account commodity. held_as_bought (After place) book account commodity is_book;
-      gains = λ sales are. record { lots = sale_legs (After place) book sales is_book are; gains = all_less_cost sales };
+      gains = λ sales are. all_realised (After place) book sales is_book are;
     }
 
 pub headline_of_made : (sessions : List Sent) (book : List Entry) → StopsLeave [] sessions book → Headline 0 [] sessions book

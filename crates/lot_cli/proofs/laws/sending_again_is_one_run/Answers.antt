@@ -1,5 +1,0 @@
-use Rattle.lot_cli.proofs.HeadlineLemmas.{one_run}
-use Rattle.lot_cli.proofs.laws.sending_again_is_one_run.Goals as goal
-
-pub returns : goal.returns
-returns c before book commands replied again = one_run before commands replied again book

@@ -1,0 +1,3 @@
+pub mod RealisedLemmas
+pub mod HeadlineLemmas
+pub mod CallLemmas

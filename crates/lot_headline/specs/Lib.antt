@@ -1,0 +1,4 @@
+pub mod Realised
+pub mod Headline
+pub mod Again
+pub mod Calls

@@ -1,0 +1,54 @@
+//! The headline.
+ghost use Rattle.std.specs.Prelude.{◌≤◌, ℕ, List, [], length};
+ghost use Rattle.lot_book.specs.Book.{IsBookIn};
+ghost use Rattle.lot_book.specs.Edition.{After};
+ghost use Rattle.lot_book.specs.Facts.{Entry};
+ghost use Rattle.lot_cli.specs.Init.{IsMade};
+ghost use Rattle.lot_cli.specs.Reopen.{StandsForOneOf};
+ghost use Rattle.lot_cli.specs.Sessions.{Sent, StopsLeave};
+ghost use Rattle.lot_headline.specs.Calls.{CallsFollow, IsFound, IsReopened, IsSettled};
+ghost use Rattle.lot_headline.specs.Headline.{Headline};
+ghost use Rattle.lot_stored.specs.StandFor.{Stands};
+ghost use Rattle.sqlite.specs.Files.{file_state};
+ghost use Rattle.sqlite.specs.Held.{Held};
+ghost use Rattle.sqlite_store.specs.declared.store.FileStore.{FileStore};
+
+use sqlite_disk::Disk;
+
+/// The headline. Sessions follow one another on a book. Each may be stopped within any write, and the next one begins on what
+/// the stop left.
+///
+/// What stands in the end is the book of a prefix of the accepted commands of each session. The prefix holds every acknowledged
+/// command. In that book each commodity's units at cost are those bought less those sold. Each realised gain is its proceeds
+/// less the cost of the lots its method names.
+///
+/// A session may keep each of its commands in a commit of its own. Then the prefix has at most one more than was acknowledged.
+/// Or it keeps them in one commit, all or none. Then the prefix is none of them or, where none is refused, all; and its replies
+/// acknowledge all together, or nothing.
+///
+/// A book that was made has no entries before the first session, and place of migration 0.
+pub fn the_headline()
+    ensures made { (sessions : List Sent) (book : List Entry)
+        → StopsLeave [] sessions book → Headline 0 [] sessions book }
+    ensures goes_on { (place : ℕ) (before : List Entry) (sessions : List Sent) (book : List Entry)
+        → place ≤ length before → IsBookIn (After place) before
+        → StopsLeave before sessions book → Headline place before sessions book }
+{}
+
+/// The headline, from the disk to the book. Calls of `serve` follow one another on the two files of a book. Each does an action: it
+/// posts, imports, reports, or does anything else that the program does to a book. It ends or is stopped, before, within or behind
+/// any write, and the next call opens what the stop left.
+///
+/// What stands in the file in the end is a book with the five properties of `Headline`, over what the calls sent and replied.
+///
+/// A book may stand there before the first call, or the first call makes it.
+pub fn calls_keep_the_headline<D: Disk>()
+    ensures goes_on { (opened last : Held (FileStore D D.Disk)) (sessions : List Sent)
+        (before : List Entry) (stands : Stands (file_state opened) before)
+        → IsFound opened → CallsFollow opened sessions last
+        → StandsForOneOf (Headline stands.book.place before sessions) (file_state last) }
+    ensures made { (opened stopped next last : Held (FileStore D D.Disk)) (sessions : List Sent)
+        → IsMade (file_state opened) (file_state stopped) → IsSettled stopped
+        → IsReopened stopped next → CallsFollow next sessions last
+        → StandsForOneOf (Headline 0 [] sessions) (file_state last) }
+{}
