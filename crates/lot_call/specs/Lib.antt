@@ -3,6 +3,7 @@ pub mod Except
 pub mod Fate
 pub mod Loaded
 pub mod Looks
+pub mod Pair
 pub mod Remains
 pub mod Rounding
 pub mod Sums

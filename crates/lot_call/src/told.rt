@@ -2,19 +2,17 @@
 
 ghost use Rattle.std.specs.Prelude.{◌≡◌};
 ghost use Rattle.lot_call.specs.Except.{except_of};
-ghost use Rattle.lot_call.specs.Looks.{IsLookedAt};
-ghost use Rattle.sqlite.specs.Held.{state};
 
 use crate::call::{Call, rounding_of};
 use crate::crumbs::Crumbs;
 use crate::exported::Exported;
-use crate::facts::look_up;
+use crate::facts::Facts;
 use crate::remains::say_cut_short;
 use crate::remembered::Remembered;
 use lot_args::Action;
 use lot_base::Label;
 use lot_command::Key;
-use lot_explain::{Explanation, ExportRows, Source, Transcript, list, nearest_code};
+use lot_explain::{ExportRows, Source, list, nearest_code, notes};
 use lot_output::{Heard, Output, Record};
 use lot_profile_text::{NOTES, SECTIONS, explain_profile};
 use lot_rounding::Asked;
@@ -63,7 +61,7 @@ fn unknown(rt: &HostRuntime, word: &str) -> u8 {
 
 /// Says on standard error why commands were refused, what a fault means, which rows were left out, and what was perhaps read
 /// otherwise than it was meant. What is said of commands that aren't kept is by the book that they had made, else by the book as
-/// it is, which is looked at alone. Where memory ends or that can't be written, less is said.
+/// it is. Where memory ends or that can't be written, less is said.
 pub fn explain<'a, S: Alter>(
     call: &'a Call<'a>,
     read: &'a Record,
@@ -71,9 +69,7 @@ pub fn explain<'a, S: Alter>(
     crumbs: &'a Crumbs,
     remembered: &mut Remembered,
     conn: &mut Connection<S>,
-)
-    ensures looked { IsLookedAt (state S.Store conn.old) (state S.Store conn.new) }
-{
+) {
     let (Some(input), Some(lines)) = (&read.bytes, &heard.lines.bytes) else {
         return;
     };
@@ -94,7 +90,7 @@ pub fn explain<'a, S: Alter>(
         None => &[],
     };
     let (source, from) = source_of(call.action, &rows, commands);
-    let transcript = Transcript {
+    let asked = lot_explain::Transcript {
         source,
         input: input.as_slice(),
         from,
@@ -105,30 +101,13 @@ pub fn explain<'a, S: Alter>(
         rounding: rounding_of(call.action),
         findings: &crumbs.findings,
     };
-    write_explanation(call.rt, &transcript, most, remembered, conn);
-}
-
-/// Writes on standard error what there is to say of what a call read and said, as much as is wanted.
-fn write_explanation<'a, S: Alter>(
-    rt: &HostRuntime,
-    transcript: &'a Transcript<'a>,
-    most: u64,
-    remembered: &mut Remembered,
-    conn: &mut Connection<S>,
-)
-    ensures looked { IsLookedAt (state S.Store conn.old) (state S.Store conn.new) }
-{
-    let alloc = rt.alloc();
-    let Ok(explanation) = Explanation::of(alloc, transcript) else {
-        return;
+    let mut errors = call.rt.stderr();
+    let _ = if remembered.is_dropped {
+        notes(alloc, &mut errors, remembered, &asked, most)
+    } else {
+        let mut facts = Facts { alloc, db: conn };
+        notes(alloc, &mut errors, &mut facts, &asked, most)
     };
-    if !remembered.is_dropped {
-        let Ok(wanted) = explanation.wanted(alloc) else {
-            return;
-        };
-        look_up(alloc, conn, &wanted, &mut remembered.known);
-    }
-    let _ = explanation.write(alloc, &mut rt.stderr(), &remembered.known, most);
 }
 
 /// Returns the rows of an export, none where there is none. The only error is out of memory.
