@@ -44,7 +44,7 @@ use Rattle.lot_cli.specs.Reports.{Reports}
 use Rattle.lot_cli.specs.Restore.{RestoresBook, terms_for}
 use Rattle.lot_cli.specs.Runs.{RowAlone, RunsBy, RunsInput, RunsOn, decimals_of}
 use Rattle.lot_cli.specs.Says.{Told}
-use Rattle.lot_cli.specs.Serve.{Call, SaysMigrated, SaysVerified, Serves}
+use Rattle.lot_cli.specs.Serve.{SaysMigrated, SaysVerified, Serves}
 use Rattle.lot_cli.specs.Sessions.{Sent, SessionLeaves, StopsLeave}
 use Rattle.lot_headline.proofs.HeadlineLemmas.{headline}
 use Rattle.lot_headline.specs.Calls.{CallsFollow, IsCall, IsFound, IsOnBook, IsReopened, IsSettled, nothing_sent, sent_by, sent_in, sent_of, sent_on}

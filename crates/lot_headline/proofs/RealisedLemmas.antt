@@ -36,7 +36,7 @@ use Rattle.lot_laws.proofs.StepLemmas.{books_one}
 use Rattle.lot_stored.proofs.BookedLemmas.{booked_as}
 use Rattle.lot_stored.proofs.SalesLemmas.{all_booked}
 use Rattle.lot_stored.specs.Kept.{AreSalesOfEntry, SalesOf}
-use Rattle.lot_headline.specs.Realised.{AreNamed, IsGainOf, IsRealised, IsWritten, Sold, posting_there}
+use Rattle.lot_headline.specs.Realised.{IsGainOf, IsRealised, IsWritten, Sold, posting_there}
 
 -- ---- the legs of one posting
 

@@ -1,6 +1,6 @@
 -- What each sale of a book realised: by its posting as it was written, by the lots that the method of its account names at that
 -- place of the book, and by what these cost (docs/RULES.md, Gain).
-use Rattle.std.specs.Prelude.{◌≡◌, ◌↔◌, ◌<◌, ℕ, suc, true, List, ◌∷◌, ◌++◌, length, Option, Some, ℤ, pos, ◌-ℤ◌, ◌*ℤ◌, neg_ℤ}
+use Rattle.std.specs.Prelude.{◌≡◌, ◌↔◌, ◌<◌, ℕ, suc, true, List, ◌∷◌, ◌++◌, length, Some, ℤ, pos, ◌-ℤ◌, ◌*ℤ◌, neg_ℤ}
 use Rattle.std.specs.List.{AllByRecursion}
 use Rattle.std.specs.Option.{IsSome}
 use Rattle.lot_cost.specs.declared.cost.Cost.{Cost}
