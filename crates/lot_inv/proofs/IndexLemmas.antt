@@ -1,5 +1,5 @@
 -- An index goes with the lots, has each of them, and has them by rank.
-use Rattle.std.specs.Prelude.{◌≡◌, ◌++◌, ◌&&◌, map, IsPermutation, Bool, true, false, cond, Option, None, Some, List, [], ◌∷◌, ℤ, Result, Ok, Err, IfOk, IfSome, OnOk}
+use Rattle.std.specs.Prelude.{◌≡◌, ℕ, ◌++◌, ◌&&◌, map, IsPermutation, Bool, true, false, cond, Option, None, Some, List, [], ◌∷◌, ℤ, Result, Ok, Err, IfOk, IfSome, OnOk}
 use Rattle.std.specs.declared.cmp.Ordering.{Ordering}
 use Rattle.std.specs.declared.cmp.Ordering.TheVariants.{Less, Equal, Greater}
 use Rattle.std.specs.BTreeMap.{is_at}
@@ -25,7 +25,7 @@ use Rattle.lot_cost.proofs.OrderLemmas.{eq_then, exact_lots, is_equal, lots_tota
 use Rattle.lot_inv.specs.declared.lots.OpenLot.{OpenLot}
 use Rattle.lot_inv.specs.declared.foremost.Foremost.{Foremost}
 use Rattle.lot_inv.specs.declared.lot.Lot.{Lot}
-use Rattle.lot_inv.specs.Index.{IsIndex, IsSet, Place, has_rank, in_order, in_place, is_own, place, place_cmp}
+use Rattle.lot_inv.specs.Index.{IsIndex, IsSet, Place, has_rank, in_order, in_place, is_own, place, place_cmp, with_own}
 use Rattle.lot_inv.specs.Foremost.{is_later, rank, rank_cmp}
 use Rattle.lot_inv.specs.Holding.{listed, takeable_lots}
 use Rattle.lot_inv.specs.Lots.{lot_at}
@@ -109,17 +109,27 @@ module _ (foremost : Foremost) where
   come None at = refl
   come (Some lot) at = refl
 
+  -- where a lot takes the place of what was kept, it need not go first
+  pub stays : (key : LotKey) (held lot : OpenLot) (after found : Option OpenLot) (at : Place) → held.opening ≡ lot.opening → after ≡ Some lot
+      → with_own foremost key after at found ≡ with_own foremost key after at (cond (is_own foremost key (Some held) at) None found)
+  stays key held lot after found at same is =
+      let its_own = λ (opening : ℕ). is_eq (place_cmp (place foremost key opening) at) in
+      (λ i. with_own foremost key (is i) at found)
+      ∙ elim (its_own lot.opening) as (λ b. cond b (Some lot) found ≡ cond b (Some lot) (cond b None found)) [ true ↦ refl | false ↦ refl ]
+      ∙ (λ i. with_own foremost key (sym is i) at (cond (its_own (sym same i)) None found))
+
   -- an index goes with the lots
   pub index_set : (key : LotKey) (before after : Option OpenLot) (index without new : List Placed) (lots now : List Entry)
       → IsIndex foremost index lots → IsSet key before after lots now
-      → ((at : Place) → lookup (is_at (place_cmp at)) without ≡ cond (is_own foremost key before at) None (lookup (is_at (place_cmp at)) index))
-      → ((at : Place) → lookup (is_at (place_cmp at)) new ≡ cond (is_own foremost key after at) after (lookup (is_at (place_cmp at)) without))
+      → ((at : Place) → with_own foremost key after at (lookup (is_at (place_cmp at)) without)
+      ≡ with_own foremost key after at (cond (is_own foremost key before at) None (lookup (is_at (place_cmp at)) index)))
+      → ((at : Place) → lookup (is_at (place_cmp at)) new ≡ with_own foremost key after at (lookup (is_at (place_cmp at)) without))
       → IsIndex foremost new now
   index_set key before after index without new lots now indexed set out sets at =
       let here = is_eq (lot_cmp key at.1) in
       let held = lot_at lots at.1 in
-      sets at
-      ∙ (λ i. cond (own key after at i) after ((out at ∙ (λ j. cond (own key before at j) None (indexed at j))) i))
+      sets at ∙ out at
+      ∙ (λ i. cond (own key after at i) after (cond (own key before at i) None (indexed at i)))
       ∙ elim here as (λ b. here ≡ b
       → cond (its after at b) after (cond (its before at b) None (in_place foremost at held)) ≡ in_place foremost at (cond b after held)) [
         | true ↦ λ same.

@@ -45,6 +45,10 @@ abbrev pub is_own : Foremost → LotKey → Option OpenLot → Place → Bool
 is_own foremost key None at = false
 is_own foremost key (Some lot) at = is_eq (place_cmp (place foremost key lot.opening) at)
 
+-- what stands at a place, once what is kept under a key is set at its own
+abbrev pub with_own : Foremost → LotKey → Option OpenLot → Place → Option OpenLot → Option OpenLot
+with_own foremost key after at before = if is_own foremost key after at then after else before
+
 -- of some lots one was set: what was kept under its key, and what is kept there now
 pub record IsSet (key : LotKey) (before after : Option OpenLot) (old new : List (LotKey × OpenLot)) : Type 0 where
   pub was : lot_at old key ≡ before

@@ -2,7 +2,7 @@ ghost use Rattle.std.specs.Prelude.{◌≡◌, IfSome, List, None, cond};
 ghost use Rattle.std.specs.BTreeMap.{get};
 ghost use Rattle.lot_cost.specs.declared.lot_key.LotKey.{LotKey};
 ghost use Rattle.lot_inv.specs.declared.lots.OpenLot.{OpenLot};
-ghost use Rattle.lot_inv.specs.Index.{IsIndex, IsSet, Place, is_own, place_cmp};
+ghost use Rattle.lot_inv.specs.Index.{IsIndex, IsSet, Place, is_own, place_cmp, with_own};
 ghost use Rattle.lot_inv.specs.Holding.{kept};
 
 use crate::foremost::Foremost;
@@ -31,25 +31,37 @@ pub(crate) fn renewed(
         → IfSome result (λ new. IsIndex foremost new.entries lots.now.entries) }
 {
     match index {
-        Some(index) => with_lot(without(index, foremost, key, before)?, foremost, key, lot),
+        Some(index) => with_lot(
+            without(index, foremost, key, before, lot)?,
+            foremost,
+            key,
+            lot,
+        ),
         None => indexed(alloc?, foremost, lots),
     }
 }
 
-/// Returns an index without what was kept under a key. It is `None` where memory lacks for a copy of the key.
+/// Returns an index without what was kept under a key. That stays where the lot takes the same place, and is replaced there. It is
+/// `None` where memory lacks for a copy of the key.
 fn without(
     mut index: Index,
     foremost: Foremost,
     key: &LotKey,
     before: &Option<OpenLot>,
+    lot: &OpenLot,
 ) -> Option<Index>
-    ensures { IfSome result (λ new. (at : Place) → get place_cmp new at
-        ≡ cond (is_own foremost key.now before.now at) None (get place_cmp index at)) }
+    ensures { IfSome result (λ new. (at : Place)
+        → with_own foremost key.now (kept lot.now.units lot.now.opening) at (get place_cmp new at)
+        ≡ with_own foremost key.now (kept lot.now.units lot.now.opening) at
+        (cond (is_own foremost key.now before.now at) None (get place_cmp index at))) }
 {
-    let Some(lot) = before else {
+    let Some(held) = before else {
         return Some(index);
     };
-    let at = (foremost.rank(key, lot.opening), key.copy().ok()?);
+    if held.opening == lot.opening && lot.units.mantissa() != 0 {
+        return Some(index);
+    }
+    let at = (foremost.rank(key, held.opening), key.copy().ok()?);
     index.remove(&at);
     Some(index)
 }
@@ -57,8 +69,8 @@ fn without(
 /// Returns an index with a lot under a key, unless it has zero units. It is `None` where memory lacks for it.
 fn with_lot(mut index: Index, foremost: Foremost, key: &LotKey, lot: &OpenLot) -> Option<Index>
     ensures { IfSome result (λ new. (at : Place) → get place_cmp new at
-        ≡ cond (is_own foremost key.now (kept lot.now.units lot.now.opening) at)
-        (kept lot.now.units lot.now.opening) (get place_cmp index at)) }
+        ≡ with_own foremost key.now (kept lot.now.units lot.now.opening) at
+        (get place_cmp index at)) }
 {
     if lot.units.mantissa() == 0 {
         return Some(index);
