@@ -1,1 +1,2 @@
 pub mod MediumLemmas
+pub mod OpenLemmas
