@@ -1,2 +1,1 @@
 pub mod MediumLemmas
-pub mod OpenLemmas

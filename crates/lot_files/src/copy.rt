@@ -1,19 +1,18 @@
 //! A copy in memory of a book: of its file and its log, which are opened for reading alone.
 
-ghost use Rattle.std.specs.Prelude.{◌≡◌, IfErr, IfOk};
+ghost use Rattle.std.specs.Prelude.{◌≡◌, IfErr, IfOk, None, false};
 ghost use Rattle.sqlite.specs.Files.{Finds, file_state};
 ghost use Rattle.sqlite.specs.State.{HasCleanDisk};
 ghost use Rattle.lot_files.specs.Cause.{IsOfCopy};
 ghost use Rattle.lot_files.specs.Image.{copy_of, held_by};
 ghost use Rattle.lot_files.specs.Medium.{in_memory};
-ghost use Rattle.lot_files.specs.Opened.{IsOverMemory, IsReady};
 
 use crate::cause::Cause;
 use crate::files::{Located, ensure_names_file, is_missing, locate};
 use crate::image::Image;
 use crate::medium::Medium;
-use crate::opened::Database;
-use sqlite::{Connection, Files, Options};
+use crate::opened::BookFile;
+use sqlite::{Connection, FileStore, Files, Options};
 use std::alloc::Global;
 use std::fs;
 use std::io::{self, ErrorKind, Read};
@@ -34,9 +33,12 @@ const FEW: usize = 16;
 
 /// Opens a copy of the database in the file of that path. A file that isn't there is copied as an
 /// empty one. Nothing is written but the copy, which is in memory.
-pub(crate) fn open_copy<'a>(rt: &HostRuntime, path: &str) -> Result<Database<'a>, Cause>
-    ensures ready { IfOk result (λ conn. IsReady conn) }
-    ensures over { IfOk result IsOverMemory }
+pub(crate) fn open_copy<'a>(
+    rt: &HostRuntime,
+    path: &str,
+) -> Result<Connection<FileStore<BookFile<'a>>>, Cause>
+    ensures outside { IfOk result (λ conn. conn.in_transaction ≡ false) }
+    ensures unlimited { IfOk result (λ conn. conn.step_limit ≡ None) }
 {
     let alloc = rt.alloc();
     if is_missing(rt, path) && fs::symlink_metadata(rt, path).is_err() {
@@ -48,9 +50,9 @@ pub(crate) fn open_copy<'a>(rt: &HostRuntime, path: &str) -> Result<Database<'a>
 }
 
 /// Opens an empty database in memory.
-pub fn open_nothing<'a>(alloc: Global) -> Result<Database<'a>, Cause>
-    ensures ready { IfOk result (λ conn. IsReady conn) }
-    ensures over { IfOk result IsOverMemory }
+pub fn open_nothing<'a>(alloc: Global) -> Result<Connection<FileStore<BookFile<'a>>>, Cause>
+    ensures outside { IfOk result (λ conn. conn.in_transaction ≡ false) }
+    ensures unlimited { IfOk result (λ conn. conn.step_limit ≡ None) }
 {
     let files = Files {
         log: Image::new(Vec::new(alloc)),
@@ -69,8 +71,9 @@ fn open_images<'a>(
     alloc: Global,
     files: Files<Image>,
     options: Options,
-) -> Result<Database<'a>, Cause>
-    ensures ready { IfOk result (λ conn. IsReady conn) }
+) -> Result<Connection<FileStore<BookFile<'a>>>, Cause>
+    ensures outside { IfOk result (λ conn. conn.in_transaction ≡ false) }
+    ensures unlimited { IfOk result (λ conn. conn.step_limit ≡ None) }
     ensures found { IfOk result (λ conn. HasCleanDisk (file_state conn)
         → Finds (in_memory files) conn) }
     ensures cause { IfErr result IsOfCopy }

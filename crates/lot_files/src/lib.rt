@@ -21,4 +21,4 @@ pub use files::{ensure_openable, is_missing, library_path};
 pub use image::Image;
 pub use medium::Medium;
 pub use noted::{Failure, Noted};
-pub use opened::{Access, BookFile, Database, Opened, open_book};
+pub use opened::{Access, BookFile, Opened, open_book};

@@ -1,17 +1,17 @@
 //! What a call opens.
 
-ghost use Rattle.std.specs.Prelude.{◌≡◌, option_copied};
-ghost use Rattle.lot_host.specs.Access.{access_of, makes_file, old_of, path_of, to_change};
+ghost use Rattle.std.specs.Prelude.{◌≡◌};
+ghost use Rattle.lot_call.specs.Access.{access_of, path_of, to_change};
 
 use lot_args::{Action, Effect};
 use lot_files::Access;
 
-/// Returns the path of the book that an action names. A check names none.
-pub fn path_of(action: &Action) -> Option<&str>
-    ensures { option_copied result ≡ path_of action.now }
+/// Returns the path of the book that an action names. A check names none: it is empty then.
+pub fn path_of(action: &Action) -> &str
+    ensures { result.now ≡ path_of action.now }
 {
     match action {
-        Action::Check { .. } => None,
+        Action::Check { .. } => "",
         Action::Init { book }
         | Action::Migrate { book }
         | Action::PostRow { book, .. }
@@ -19,29 +19,12 @@ pub fn path_of(action: &Action) -> Option<&str>
         | Action::Gains { book, .. }
         | Action::Journal { book }
         | Action::Dump { book }
-        | Action::Verify { book, .. } => Some(book.as_str()),
-        Action::Post(post) => Some(post.book.as_str()),
-        Action::Import(import) => Some(import.book.as_str()),
-        Action::ImportBy(import) => Some(import.book.as_str()),
-        Action::Restore(restore) => Some(restore.book.as_str()),
+        | Action::Verify { book, .. } => book.as_str(),
+        Action::Post(post) => post.book.as_str(),
+        Action::Import(import) => import.book.as_str(),
+        Action::ImportBy(import) => import.book.as_str(),
+        Action::Restore(restore) => restore.book.as_str(),
     }
-}
-
-/// Returns the path of the book that a new one is compared with, where an action names one.
-pub fn old_of(action: &Action) -> Option<&str>
-    ensures { option_copied result ≡ old_of action.now }
-{
-    match action {
-        Action::Restore(restore) => restore.compare.as_deref(),
-        _ => None,
-    }
-}
-
-/// Returns whether an action makes the file of its book where there is none.
-pub(crate) fn makes_file(action: &Action) -> bool
-    ensures { result ≡ makes_file action.now }
-{
-    matches!(action, Action::Init { .. } | Action::Restore(_))
 }
 
 /// Returns what the book of an action is opened for. A report reads it. A check opens none, and is tried on an empty copy.
