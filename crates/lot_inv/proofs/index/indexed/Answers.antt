@@ -8,12 +8,14 @@ use Rattle.std.specs.Prelude.{cond}
 use Rattle.std.specs.Option.{option_or}
 use Rattle.lot_cost.specs.declared.lot_key.LotKey.{LotKey}
 use Rattle.lot_cost.specs.LotKey.{lot_cmp}
-use Rattle.lot_inv.specs.ByNumber.{lot_of_place, place_cmp}
-use Rattle.lot_inv.proofs.ByNumberLemmas.{Entry, behind_sorted, ok_is, ok_on, one_made}
-use Rattle.lot_inv.proofs.by_number.by_number.Goals as goal
+use Rattle.lot_inv.specs.Index.{in_place, place_cmp}
+use Rattle.lot_inv.specs.Lots.{lot_at}
+use Rattle.lot_inv.proofs.IndexLemmas.{Entry, behind_sorted, ok_is, ok_on, one_made}
+use Rattle.lot_inv.proofs.index.indexed.Goals as goal
 
 pub loop-key-preserved : goal.loop-key-preserved
 loop-key-preserved c =
+    let foremost = c.args.foremost in
     let key = c.in-Some.key.now in
     let lot = c.in-Some.lot.now in
     let rest = c.next.new.self in
@@ -24,7 +26,7 @@ loop-key-preserved c =
     let sorted = subst (λ (es : List Entry). IsStrictlySortedBy lot_cmp (keys_of es)) steps so_far.sorted in
     record {
       sorted = behind_sorted (key, lot) rest sorted;
-      each = one_made (key, lot) rest c.args.lots.now.entries c.loop-key.index.entries c.insert.new.self.entries sorted
-          (λ at. ap (λ (es : List Entry). option_or (lot_of_place es at) (get place_cmp c.loop-key.index at)) (sym steps) ∙ so_far.each at)
-          (λ at. updates.0 at ∙ ap (λ (k : LotKey). cond (is_eq (place_cmp (key.number, k) at)) (Some lot) (get place_cmp c.loop-key.index at)) copied);
+      each = one_made foremost (key, lot) rest c.args.lots.now.entries c.loop-key.index.entries c.insert.new.self.entries sorted
+          (λ at. ap (λ (es : List Entry). option_or (in_place foremost at (lot_at es at.1)) (get place_cmp c.loop-key.index at)) (sym steps) ∙ so_far.each at)
+          (λ at. updates.0 at ∙ (λ i. cond (is_eq (place_cmp (c.rank.ensures i, copied i) at)) (Some lot) (get place_cmp c.loop-key.index at)));
     }
