@@ -35,7 +35,7 @@ from model import ONE, day_text, key_order, number_text
 getcontext().prec = 60
 
 A_CASE = 100  # seeds
-GAINS = "entry,posting,account,commodity,units,acquired,sold,days_held,label,unit_cost,currency,proceeds,cost,gain".split(",")
+GAINS = "entry,posting,account,commodity,units,acquired,sold,days_held,label,unit_cost,currency,proceeds,cost,gain,term".split(",")
 HOLDINGS = "account,commodity,units,acquired,label,unit_cost,currency,cost".split(",")
 VALUES = ["price", "value"]
 
@@ -43,8 +43,8 @@ draw.LABELS = (None, None, None, "a", "b", "é", "a lot; {}", "of ten, the first
 
 KINDS = (
     "a price of each unit", "a total price", "a total that a lot has no whole part of", "a total of several lots", "an unpriced sale",
-    "a short that is covered", "a lot that is sold before its day", "a label in quotes", "a plain position", "a lot with a price",
-    "a lot without a price", "no sales", "nothing held",
+    "a short that is covered", "a lot that is sold before its day", "a lot that is held over a year", "a label in quotes",
+    "a plain position", "a lot with a price", "a lot without a price", "no sales", "nothing held",
 )
 
 
@@ -56,6 +56,12 @@ def shares(total, units, legs):
     """The shares of legs in the price of all units: parts cut at eight decimals, the last what is left."""
     parts = [total * abs(leg.units) // abs(units) for leg in legs[:-1]]
     return parts + [total - sum(parts)]
+
+
+def term(acquired, sold):
+    """Over a year where the sale is later than the same day of the next year, which for 29 February is 28 February."""
+    year, month, day = acquired
+    return "over-a-year" if sold > (year + 1, month, 28 if (month, day) == (2, 29) else day) else "up-to-a-year"
 
 
 def gains(book, first, last, seen):
@@ -84,12 +90,13 @@ def gains(book, first, last, seen):
                 cost = -leg.units * leg.key.number
                 held = ordinal(entry.command.day) - ordinal(leg.key.day)
                 seen["a lot that is sold before its day"] += held < 0
+                seen["a lot that is held over a year"] += term(leg.key.day, entry.command.day) == "over-a-year"
                 seen["a label in quotes"] += "," in (leg.key.label or "")
                 records.append([
                     str(number), str(place), posting.account, posting.amount.commodity, number_text(leg.units),
                     day_text(leg.key.day), day_text(entry.command.day), str(held), leg.key.label or "",
                     number_text(leg.key.number), leg.key.currency, "" if got is None else reports.money(got), reports.money(cost),
-                    "" if got is None else reports.money(got - cost),
+                    "" if got is None else reports.money(got - cost), term(leg.key.day, entry.command.day),
                 ])
     seen["no sales"] += not records
     return [GAINS] + records
