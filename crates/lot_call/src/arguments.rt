@@ -251,6 +251,9 @@ fn form(option: BadOption) -> &'static str {
         BadOption::Day => "a day, as in --day 2024-12-31",
         BadOption::First => "a day, as in --first 2024-01-01",
         BadOption::Last => "a day, as in --last 2024-12-31",
+        BadOption::By => {
+            "year, commodity, account or term, or several joined by commas, as in --by year,account"
+        }
         BadOption::Format => "text or csv, as in --format csv",
         BadOption::Without => {
             "the key of an entry, its source and its name, as in --without \"import:broker A17\""

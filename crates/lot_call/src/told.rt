@@ -183,10 +183,7 @@ fn source_of<'a>(
         Action::Check { .. }
         | Action::Init { .. }
         | Action::Migrate { .. }
-        | Action::Holdings { .. }
-        | Action::Gains { .. }
-        | Action::Journal { .. }
-        | Action::Dump { .. }
+        | Action::Report { .. }
         | Action::Verify { .. } => (Source::Text { batch: "check" }, 1),
     }
 }

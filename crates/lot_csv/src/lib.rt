@@ -19,4 +19,5 @@ mod shares;
 pub use gains::{Seller, gains_header, write_sale};
 pub use holdings::{Columns, holdings_header, write_holding};
 pub use lots::lot_gains;
+pub use record::{push_field, push_others};
 pub use shares::lot_cost;

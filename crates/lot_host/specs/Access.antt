@@ -2,7 +2,7 @@
 use Rattle.std.specs.Prelude.{ℕ, Bool, false, true, List, Option, None, Some, option_map}
 use Rattle.std.specs.String.{string_bytes}
 use Rattle.lot_args.specs.declared.action.Action.{Action}
-use Rattle.lot_args.specs.declared.action.Action.TheVariants.{Check, Init, Migrate, Post, PostRow, Import, ImportBy, Holdings, Gains, Journal, Dump, Restore, Verify}
+use Rattle.lot_args.specs.declared.action.Action.TheVariants.{Check, Init, Migrate, Post, PostRow, Import, ImportBy, Report, Restore, Verify}
 use Rattle.lot_args.specs.declared.request.Effect.{Effect}
 use Rattle.lot_args.specs.declared.request.Effect.TheVariants.{Keep, DryRun}
 use Rattle.lot_files.specs.declared.opened.Access.{Access}
@@ -17,10 +17,7 @@ path_of (Post post) = Some (string_bytes post.book)
 path_of (PostRow book batch reference rounding) = Some (string_bytes book)
 path_of (Import «import») = Some (string_bytes «import».book)
 path_of (ImportBy «import») = Some (string_bytes «import».book)
-path_of (Holdings book day format) = Some (string_bytes book)
-path_of (Gains book first last format) = Some (string_bytes book)
-path_of (Journal book) = Some (string_bytes book)
-path_of (Dump book) = Some (string_bytes book)
+path_of (Report book report) = Some (string_bytes book)
 path_of (Restore restore) = Some (string_bytes restore.book)
 path_of (Verify book saying) = Some (string_bytes book)
 
@@ -49,9 +46,6 @@ access_of (Post post) effect = to_change effect
 access_of (PostRow book batch reference rounding) effect = to_change effect
 access_of (Import «import») effect = to_change effect
 access_of (ImportBy «import») effect = to_change effect
-access_of (Holdings book day format) effect = Read
-access_of (Gains book first last format) effect = Read
-access_of (Journal book) effect = Read
-access_of (Dump book) effect = Read
+access_of (Report book report) effect = Read
 access_of (Restore restore) effect = to_change effect
 access_of (Verify book saying) effect = Read

@@ -15,10 +15,7 @@ pub fn path_of(action: &Action) -> Option<&str>
         Action::Init { book }
         | Action::Migrate { book }
         | Action::PostRow { book, .. }
-        | Action::Holdings { book, .. }
-        | Action::Gains { book, .. }
-        | Action::Journal { book }
-        | Action::Dump { book }
+        | Action::Report { book, .. }
         | Action::Verify { book, .. } => Some(book.as_str()),
         Action::Post(post) => Some(post.book.as_str()),
         Action::Import(import) => Some(import.book.as_str()),
@@ -49,11 +46,7 @@ pub fn access_of(action: &Action, effect: Effect) -> Access
     ensures { result ≡ access_of action.now effect }
 {
     match action {
-        Action::Holdings { .. }
-        | Action::Gains { .. }
-        | Action::Journal { .. }
-        | Action::Dump { .. }
-        | Action::Verify { .. } => Access::Read,
+        Action::Report { .. } | Action::Verify { .. } => Access::Read,
         Action::Init { .. }
         | Action::Migrate { .. }
         | Action::Post(_)
