@@ -22,7 +22,7 @@ _lotbook_options() {
             echo --book --batch --profile --invest --cash --fees --gains --from --except --rounding --within --decimals
             echo --dry-run --all-or-none --explain-all --keep-accepted --show --quiet --help
             ;;
-        holdings) echo --book --day --format --quiet --help ;;
+        holdings) echo --book --as-of --day --format --quiet --help ;;
         gains) echo --book --first --last --by --format --quiet --help ;;
         journal) echo --book --quiet --help ;;
         dump) echo --book --quiet --help ;;
@@ -71,7 +71,7 @@ _lotbook() {
             _lotbook_offer -W "year commodity account term"
             return
             ;;
-        --batch | --cash | --day | --decimals | --except | --fees | --first | --from | --gains | --invest | --last | --ref | --rounding | --row-of | --within | --without | --without-batch | --without-entries) return ;;
+        --as-of | --batch | --cash | --day | --decimals | --except | --fees | --first | --from | --gains | --invest | --last | --ref | --rounding | --row-of | --within | --without | --without-batch | --without-entries) return ;;
     esac
     if [[ $current == -* ]]; then
         _lotbook_offer -W "$(_lotbook_options "$word")"

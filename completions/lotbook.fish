@@ -72,6 +72,7 @@ complete -c lotbook -n '__lotbook_word_is import' -l show -d 'Prints the ledger 
 complete -c lotbook -n '__lotbook_word_is import' -l quiet -d 'Explains nothing on standard error, also where --explain-all is given'
 complete -c lotbook -n '__lotbook_word_is import' -s h -l help -d 'Prints the help'
 complete -c lotbook -n '__lotbook_word_is holdings' -l book -r -F -d 'The file of the book'
+complete -c lotbook -n '__lotbook_word_is holdings' -l as-of -x -d 'Prints what was held at the end of that day'
 complete -c lotbook -n '__lotbook_word_is holdings' -l day -x -d 'The day whose prices value the lots'
 complete -c lotbook -n '__lotbook_word_is holdings' -l format -x -a 'text csv' -d 'How it is written'
 complete -c lotbook -n '__lotbook_word_is holdings' -l quiet -d 'Explains nothing on standard error, also where --explain-all is given'

@@ -131,7 +131,7 @@ fi
 
 # ---- output that can't be written
 
-for word in "holdings" "holdings --day 2020-12-31" gains; do
+for word in "holdings" "holdings --day 2020-12-31" "holdings --as-of 2020-12-31" gains; do
     read -ra words <<<"$word --format csv"
     cut_short "$word" "1 70 4097" "${words[@]}" --book "$book"
 done

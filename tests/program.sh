@@ -117,6 +117,9 @@ unusable "--from" post --book f --batch a/b --from 0
 unusable "-a" post --book f --batch -a
 unusable "--book" journal --book f --book g
 unusable "UTF-8" post --book f --batch $'\xff'
+unusable "fault U2 BadValue --as-of" holdings --book f --as-of 2020-02-30
+unusable "fault U2 BadValue --as-of" holdings --book f --day x --as-of x
+unusable "--as-of" gains --book f --as-of 2020-01-01
 unusable "fault U2 BadValue --day" holdings --book f --day 2020-02-30
 unusable "\"2020-02-30\" isn't a day" holdings --book f --day 2020-02-30
 unusable "fault U2 BadValue --first" gains --book f --last x --first ''
@@ -273,6 +276,7 @@ helps "--except A17" import -h
 helps "--profile profiles/degiro-transactions.toml" import -h
 helps "--keep-accepted" import -h
 helps "--show" import -h
+helps "--as-of 2024-12-31" holdings -h
 helps "--day 2024-12-31" holdings -h
 helps "it chooses prices alone" holdings -h
 for word in holdings gains; do helps "--format csv" "$word" -h; done

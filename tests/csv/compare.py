@@ -3,10 +3,11 @@
     compare.py PROGRAM SCRATCH [--first SEED] [--count N]
 
 The plain records are written from docs/FORMATS.md and docs/RULES.md alone, over the entries of the plain judge of tests/random/.
-Each ledger is posted to a new book; then its holdings, with and without days, and its gains, whole and in ranges, are asked for as
-CSV. What is printed has to be what Python's `csv` writes of the plain records, byte for byte, and to read back as they are. Of the
-same gains as text, each sale has to be what its records add up to, exactly; and so has each row of a table by keys. A case is the ledgers of a hundred seeds, or a kind of
-record, which has to occur. A difference goes to standard error, with its seed.
+Each ledger is posted to a new book; then its holdings, with and without days, those of past days, and its gains, whole and in
+ranges, are asked for as CSV. What is printed has to be what Python's `csv` writes of the plain records, byte for byte, and to read
+back as they are. Of the same gains as text, each sale has to be what its records add up to, exactly; and so has each row of a table
+by keys. A case is the ledgers of a hundred seeds, or a kind of record, which has to occur. A difference goes to standard error, with
+its seed.
 """
 
 import collections
@@ -46,8 +47,8 @@ draw.LABELS = (None, None, None, "a", "b", "é", "a lot; {}", "of ten, the first
 KINDS = (
     "a price of each unit", "a total price", "a total that a lot has no whole part of", "a total of several lots", "an unpriced sale",
     "a short that is covered", "a lot that is sold before its day", "a lot that is held over a year", "a label in quotes",
-    "a plain position", "a lot with a price", "a lot without a price", "no sales", "nothing held", "a row of several lots",
-    "a row with priced and unpriced lots", "rows in two currencies",
+    "a plain position", "a lot with a price", "a lot without a price", "no sales", "nothing held", "a row of several sales",
+    "a row with priced and unpriced lots", "rows in two currencies", "a past day", "a past day with an entry behind a later one",
 )
 
 
@@ -121,7 +122,7 @@ def gains_by(keys, records, seen):
         for row in by_bytes(mark):
             priced = [record for record in rows[row] if record["gain"]]
             others = [record for record in rows[row] if not record["gain"]]
-            seen["a row of several lots"] += len(priced) > 1
+            seen["a row of several sales"] += len({record["entry"] for record in priced}) > 1
             seen["a row with priced and unpriced lots"] += bool(priced and others)
             if mark == ",":
                 table += [[*row, str(len(lots)), total(lots, "proceeds") if lots is priced else "", total(lots, "cost"),
@@ -140,8 +141,10 @@ def gains_by(keys, records, seen):
     return table, "".join(line + "\n" for line in text or ["no gains"])
 
 
-def holdings(book, day, seen):
-    records, held = [], model.Held(book)
+def holdings(book, day, seen, last=None):
+    records, held = [], model.Held(reports.up_to(book, last, seen))
+    if reports.is_beyond(held):
+        return [[reports.BEYOND]]
     for pair in held.pairs():
         account, commodity = pair
         lots = held.lots_of(pair)
@@ -209,6 +212,8 @@ def compare(program, scratch, seed):
     days, ranges = reports.asked(rng, drawing.book)
     asked = [(["holdings"], holdings(drawing.book, None, seen))]
     asked += [(["holdings", "--day", day_text(day)], holdings(drawing.book, day, seen)) for day in days]
+    asked += [(["holdings", "--as-of", day_text(day)], holdings(drawing.book, day, seen, day)) for day in days]
+    asked.append((["holdings", "--as-of", day_text(days[0]), "--day", day_text(days[1])], holdings(drawing.book, days[1], seen, days[0])))
     asked.append((["gains"], gains(drawing.book, reports.FIRST_DAY, reports.LAST_DAY, seen)))
     for first, last in ranges:
         asked.append((["gains", "--first", day_text(first), "--last", day_text(last)], gains(drawing.book, first, last, seen)))
@@ -216,7 +221,7 @@ def compare(program, scratch, seed):
     for words, records in asked:
         got = call(program, [words[0], "--book", book, "--format", "csv", *words[1:]])
         wanted = written(records)
-        if got != (wanted, 0, ""):
+        if got != (wanted, 4 if records == [[reports.BEYOND]] else 0, ""):
             found += f"--- {' '.join(words)}, wanted\n{wanted}--- got, status {got[1]}\n{got[0]}{got[2]}"
         elif list(csv.reader(io.StringIO(got[0], newline=""))) != records:
             found += f"--- {' '.join(words)} doesn't read back\n{got[0]}"

@@ -16,7 +16,7 @@ use Rattle.lot_without.specs.declared.value.By.TheVariants.{Key, Batch as ByBatc
 use Rattle.lot_args.specs.declared.fault.BadOption.{BadOption}
 use Rattle.lot_args.specs.declared.fault.Needed.{Needed}
 use Rattle.lot_args.specs.declared.fault.Needed.TheVariants.{Accounts, Book, BatchOrRow}
-use Rattle.lot_args.specs.declared.fault.BadOption.TheVariants.{Show, KeepAccepted, Batch, PostBatch, RowOf, Ref, From, Invest, Cash, Fees, Gains, Except, Rounding, Within, Decimals, Day, First, Last, By, Format, Without, WithoutBatch, WithoutEntries}
+use Rattle.lot_args.specs.declared.fault.BadOption.TheVariants.{Show, KeepAccepted, Batch, PostBatch, RowOf, Ref, From, Invest, Cash, Fees, Gains, Except, Rounding, Within, Decimals, AsOf, Day, First, Last, By, Format, Without, WithoutBatch, WithoutEntries}
 
 -- ---- values
 
@@ -55,6 +55,7 @@ name_of Except = codes "except"
 name_of Rounding = codes "rounding"
 name_of Within = codes "within"
 name_of Decimals = codes "decimals"
+name_of AsOf = codes "as-of"
 name_of Day = codes "day"
 name_of First = codes "first"
 name_of Last = codes "last"
@@ -142,6 +143,7 @@ is_good rows Except = list_all is_label (except_of rows)
 is_good rows Rounding = not (has_rounding rows) || (not (has_profile rows) && has_account (codes "rounding") rows)
 is_good rows Within = if has_rounding rows then has_bound rows else not (is_given (codes "within") rows)
 is_good rows Decimals = has_rounding rows || not (is_given (codes "decimals") rows)
+is_good rows AsOf = has_day (codes "as-of") rows
 is_good rows Day = has_day (codes "day") rows
 is_good rows First = has_day (codes "first") rows
 is_good rows Last = has_day (codes "last") rows
@@ -166,7 +168,7 @@ options_of word =
     if bytes_eq word (codes "post") then PostBatch ∷ RowOf ∷ Ref ∷ (rounding_options ++ From ∷ [])
     else (if bytes_eq word (codes "import")
     then Show ∷ KeepAccepted ∷ Batch ∷ (account_options ++ Except ∷ (rounding_options ++ From ∷ []))
-    else (if bytes_eq word (codes "holdings") then Day ∷ Format ∷ []
+    else (if bytes_eq word (codes "holdings") then AsOf ∷ Day ∷ Format ∷ []
     else (if bytes_eq word (codes "gains") then First ∷ Last ∷ By ∷ Format ∷ []
     else (if bytes_eq word (codes "restore") then Without ∷ WithoutBatch ∷ WithoutEntries ∷ [] else []))))
 

@@ -81,7 +81,8 @@ abbrev pub import_app : App
 import_app = word_app (codes "import") import_rules
 
 abbrev pub holdings_app : App
-holdings_app = book_app (codes "holdings") (option_rule (codes "day") ∷ option_rule (codes "format") ∷ [])
+holdings_app =
+    book_app (codes "holdings") (option_rule (codes "as-of") ∷ option_rule (codes "day") ∷ option_rule (codes "format") ∷ [])
 
 abbrev pub gains_app : App
 gains_app =

@@ -1,5 +1,5 @@
 -- What words ask for: what the values matched by `clap` name, and the option whose value is outside its rule.
-use Rattle.std.specs.Prelude.{◌≡◌, ◌||◌, ◌++◌, if◌then◌else◌, ℕ, Bool, false, true, List, [], Option, Some, None, codes, filter_map, option_and_then, option_map}
+use Rattle.std.specs.Prelude.{◌≡◌, ◌||◌, ◌++◌, if◌then◌else◌, ℕ, Bool, false, true, List, [], Option, Some, None, codes, filter_map, option_and_then, option_map, unwrap_or}
 use Rattle.std.specs.Str.{bytes_eq}
 use Rattle.std.specs.String.{string_bytes}
 use Rattle.clap.specs.Words.{Row, Text, fault_of, first_of, matches_of, subcommand_of}
@@ -21,7 +21,7 @@ use Rattle.lot_args.specs.declared.action.Action.{Action}
 use Rattle.lot_args.specs.declared.action.AskedImport.{AskedImport}
 use Rattle.lot_args.specs.declared.action.Action.TheVariants.{Check, Init, Migrate, Post, PostRow, Import, ImportBy, Report as Reporting, Restore, Verify}
 use Rattle.lot_args.specs.declared.action.Report.{Report}
-use Rattle.lot_args.specs.declared.action.Report.TheVariants.{Holdings, Gains, GainsBy, Journal, Dump}
+use Rattle.lot_args.specs.declared.action.Report.TheVariants.{Holdings, HoldingsOn, Gains, GainsBy, Journal, Dump}
 use Rattle.lot_args.specs.declared.action.Format.{Format}
 use Rattle.lot_args.specs.declared.action.Format.TheVariants.{Text as AsText, Csv}
 use Rattle.lot_args.specs.declared.action.Keeping.{Keeping}
@@ -112,7 +112,10 @@ IsBook rows path = path ≡ value_of (codes "book") rows
 -- a word with the values of its options asks for the report
 abbrev pub AsksForReport : Text → List Row → Report → Type 0
 AsksForReport word rows (Holdings day format) =
-    (word ≡ codes "holdings") × (day ≡ day_of (codes "day") rows) × (format ≡ format_of rows)
+    (word ≡ codes "holdings") × (day_of (codes "as-of") rows ≡ None) × (day ≡ day_of (codes "day") rows) × (format ≡ format_of rows)
+AsksForReport word rows (HoldingsOn on day format) =
+    (word ≡ codes "holdings") × (day_of (codes "as-of") rows ≡ Some on) × (day ≡ unwrap_or (day_of (codes "day") rows) on)
+    × (format ≡ format_of rows)
 AsksForReport word rows (Gains first last format) =
     (word ≡ codes "gains") × (is_given (codes "by") rows ≡ false) × (first ≡ day_of (codes "first") rows)
     × (last ≡ day_of (codes "last") rows) × (format ≡ format_of rows)

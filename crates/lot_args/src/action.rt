@@ -137,6 +137,12 @@ pub enum Report {
         day: Option<Day>,
         format: Format,
     },
+    /// What it held at the end of a day, and what its lots were worth at the prices of a day.
+    HoldingsOn {
+        on: Day,
+        day: Day,
+        format: Format,
+    },
     /// What its sales gained from the first day to the last, both included. Without a day that end of the range is open.
     Gains {
         first: Option<Day>,

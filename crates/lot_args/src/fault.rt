@@ -39,6 +39,8 @@ pub enum BadOption {
     Within,
     /// `--decimals`: `--rounding` isn't given.
     Decimals,
+    /// `--as-of`: its value isn't a day.
+    AsOf,
     /// `--day`: its value isn't a day.
     Day,
     /// `--first`: its value isn't a day.
@@ -77,6 +79,7 @@ impl BadOption {
             BadOption::Rounding => "rounding",
             BadOption::Within => "within",
             BadOption::Decimals => "decimals",
+            BadOption::AsOf => "as-of",
             BadOption::Day => "day",
             BadOption::First => "first",
             BadOption::Last => "last",

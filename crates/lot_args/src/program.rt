@@ -133,18 +133,23 @@ const WORDS: [Word; 11] = [
         about: "Posts the rows of a broker file (CSV) from standard input to a book. What a broker prints needs a profile, which says what its columns and rows are: lotbook import --book family.book --batch degiro --profile profiles/degiro-transactions.toml < Transactions.csv\n\nSuch an import is kept whole or, where a row is refused, not at all. To see what it would post: lotbook import --profile profiles/degiro-transactions.toml --show < Transactions.csv\n\nWithout a profile the first record has to be ref,date,action,symbol,units,price,currency,fee and optionally lot, and what is accepted is kept, a commit for each row: lotbook import --book family.book --batch broker --invest Assets:Broker --cash Assets:Cash --fees Expenses:Fees --gains Income:Gains < deals.csv\n\nThen the rows have to be in the order of their days, the oldest first: a deal of an earlier day than the last one that was accepted for the same account and symbol is refused.",
         options: IMPORT_OPTIONS,
     },
-    // `holdings --book FILE [--day DAY] [--format text|csv]`
+    // `holdings --book FILE [--as-of DAY] [--day DAY] [--format text|csv]`
     Word {
         name: "holdings",
         brief: "Prints what a book holds now and what it cost",
-        about: "Prints what a book holds now and what it cost: lotbook holdings --book family.book",
+        about: "Prints what a book holds now and what it cost: lotbook holdings --book family.book\n\nWhat it held at the end of a day, and what that was worth then: lotbook holdings --book family.book --as-of 2024-12-31",
         options: &[
             BOOK,
             QUIET,
             WordOption {
                 form: Form::Optional("DAY"),
+                name: "as-of",
+                help: "Prints what was held at the end of that day, as in --as-of 2024-12-31: what the entries with days up to it come to, whenever they were posted. Lots are valued at its prices, unless --day names another day",
+            },
+            WordOption {
+                form: Form::Optional("DAY"),
                 name: "day",
-                help: "The day whose prices value the lots, as in --day 2024-12-31: it chooses prices alone, what is held is as of now. Without it no value is printed",
+                help: "The day whose prices value the lots, as in --day 2024-12-31: it chooses prices alone, what is held is as of now, or of --as-of. Without either no value is printed",
             },
             FORMAT,
         ],

@@ -77,7 +77,7 @@ pub(crate) fn options_of(word: &str) -> &'static [BadOption]
             BadOption::Decimals,
             BadOption::From,
         ],
-        "holdings" => &[BadOption::Day, BadOption::Format],
+        "holdings" => &[BadOption::AsOf, BadOption::Day, BadOption::Format],
         "gains" => &[
             BadOption::First,
             BadOption::Last,
@@ -146,10 +146,12 @@ fn is_good(options: &ArgMatches<'_>, option: BadOption) -> bool
         },
         BadOption::Decimals if has_rounding(options) => true,
         BadOption::Within | BadOption::Decimals => !is_given(options, name),
-        BadOption::Day | BadOption::First | BadOption::Last => match given(options, name) {
-            Some(text) => Day::parse(text).is_ok(),
-            None => true,
-        },
+        BadOption::AsOf | BadOption::Day | BadOption::First | BadOption::Last => {
+            match given(options, name) {
+                Some(text) => Day::parse(text).is_ok(),
+                None => true,
+            }
+        }
         BadOption::By => match given(options, name) {
             Some(text) => are_keys(text),
             None => true,

@@ -239,9 +239,18 @@ fn action(alloc: Global, word: &str, options: &ArgMatches<'_>) -> Result<Action,
 fn holdings(options: &ArgMatches<'_>) -> Report
     ensures { AsksForReport (codes "holdings") (rows_of (found_of options.now)) result }
 {
-    Report::Holdings {
-        day: day(options, BadOption::Day),
-        format: format(options),
+    let prices = day(options, BadOption::Day);
+    let format = format(options);
+    match day(options, BadOption::AsOf) {
+        Some(on) => Report::HoldingsOn {
+            on,
+            day: prices.unwrap_or(on),
+            format,
+        },
+        None => Report::Holdings {
+            day: prices,
+            format,
+        },
     }
 }
 

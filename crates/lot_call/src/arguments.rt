@@ -248,6 +248,7 @@ fn form(option: BadOption) -> &'static str {
         BadOption::Rounding => "an account, as in --rounding Equity:Rounding",
         BadOption::Within => "an amount from 0 to 1, as in --within 0.01",
         BadOption::Decimals => "0 to 8, as in --decimals 2",
+        BadOption::AsOf => "a day, as in --as-of 2024-12-31",
         BadOption::Day => "a day, as in --day 2024-12-31",
         BadOption::First => "a day, as in --first 2024-01-01",
         BadOption::Last => "a day, as in --last 2024-12-31",

@@ -53,9 +53,9 @@ pub struct Served<S: Alter> {
 ///   behind that. A fault of the input changes nothing.
 /// - `post` in place of a row of a broker file applies the one command of a ledger text under the key of the row. Where the
 ///   text has no command, or several, nothing is written and nothing changes.
-/// - `holdings`, `gains`, `journal` and `dump` take the book up and write the report, each row as it is read. The first two write
-///   text or CSV. They read no input and change nothing. Where a report ends before its end, one line with the fault follows, unless
-///   the writer failed.
+/// - `holdings`, `gains`, `journal` and `dump` take the book up and write the report, each row as it is read, those of a past day once
+///   all legs are read. The first two write text or CSV. They read no input and change nothing. Where a report ends before its end,
+///   one line with the fault follows, unless the writer failed.
 /// - `restore` makes a book of the dump that the reader has, in a database without tables. Each command is judged again, and one
 ///   commit makes the book; it writes what was refused, what left out no entry, and `book restored`.
 /// - `verify` judges the book again from its entries, compares every table, and writes `book verified`, and where that is asked

@@ -4,12 +4,11 @@ ghost use Rattle.lot_io.specs.Writes.{WriteCalls, writes_between};
 ghost use Rattle.lot_stream.specs.Status.{IsStatus};
 ghost use Rattle.lot_stream.specs.declared.status.Status.TheVariants.{Stopped};
 ghost use Rattle.lot_cli.specs.Reports.{Concludes, Reports, ShowsReport, ShowsAllRows, ShowsSome, form_of, report_line};
-ghost use Rattle.lot_cli.specs.Reports.{ShowsAllGainsAs, ShowsAllHoldingsAs, ShowsGainsAs, ShowsHoldingsAs, ShowsSomeGainsAs, ShowsSomeHoldingsAs};
 ghost use Rattle.lot_cli.specs.Reports.{ShowsBook, ShowsDigest, ShowsDigestOfTables, ShowsSomeDigest, digest_writing, written_for};
 ghost use Rattle.lot_cli.specs.Says.{Says, told};
 ghost use Rattle.lot_book_report.specs.Dump.{HoldsOfPlacedBook, digest_of};
 ghost use Rattle.lot_book_report.specs.Fault.{HasCause};
-ghost use Rattle.lot_book_report.specs.Show.{HoldsOfBook, HoldsOfTables, ReadsBook};
+ghost use Rattle.lot_book_report.specs.Show.{HoldsOfTables, ReadsBook};
 ghost use Rattle.lot_store.specs.Extent.{extent_of};
 ghost use Rattle.lot_store.specs.declared.book.Condition.TheVariants.{Ready};
 ghost use Rattle.lot_stored.specs.Rows.{entry_rows};
@@ -20,7 +19,6 @@ use crate::action::Served;
 use crate::halt::Halt;
 use crate::run::{halted, tell};
 use lot_args::{Format, Report};
-use lot_base::Day;
 use lot_book_report::{
     ShowFault, digest_book, show_dump, show_gains, show_gains_csv, show_holdings,
     show_holdings_csv, show_journal,
@@ -29,7 +27,7 @@ use lot_io::CountedWrite;
 use lot_report::print_texts;
 use lot_store::{Book, HandedBack, adopt};
 use lot_stream::Status;
-use lot_sums::show_gains_by;
+use lot_sums::{show_gains_by, show_holdings_on};
 use lot_tally::TableForm;
 use sqlite::{Alter, Connection};
 use std::alloc::Global;
@@ -43,8 +41,7 @@ pub(crate) fn write_report<W: CountedWrite, S: Alter>(
 ) -> Served<S>
     requires outside { conn.in_transaction ≡ false }
     requires unlimited { conn.step_limit ≡ None }
-    ensures reports { Reports (written_for report.now)
-        (state S.Store conn) (state S.Store result.conn)
+    ensures reports { Reports (written_for report.now) (state S.Store conn) (state S.Store result.conn)
         (W.contents writer.old) (W.contents writer.new)
         (writes_between (W.calls writer.old) (W.calls writer.new))
         (told result.status result.halt) }
@@ -119,12 +116,27 @@ fn show<W: CountedWrite, S: Alter>(
     ensures cause { HasCause result (writes_between (W.calls writer.old) (W.calls writer.new)) }
 {
     match report {
-        Report::Holdings { day, format } => holdings(alloc, *day, *format, book, writer),
+        Report::Holdings {
+            day,
+            format: Format::Text,
+        } => show_holdings(alloc, book, *day, writer),
+        Report::Holdings {
+            day,
+            format: Format::Csv,
+        } => show_holdings_csv(alloc, book, *day, writer),
+        Report::HoldingsOn { on, day, format } => {
+            show_holdings_on(alloc, book, *on, *day, form_of(*format), writer)
+        }
         Report::Gains {
             first,
             last,
-            format,
-        } => gains(alloc, *first, *last, *format, book, writer),
+            format: Format::Text,
+        } => show_gains(alloc, book, *first, *last, writer),
+        Report::Gains {
+            first,
+            last,
+            format: Format::Csv,
+        } => show_gains_csv(alloc, book, *first, *last, writer),
         Report::GainsBy {
             first,
             last,
@@ -133,57 +145,6 @@ fn show<W: CountedWrite, S: Alter>(
         } => show_gains_by(alloc, book, *first, *last, by, form_of(*format), writer),
         Report::Journal => show_journal(book, writer),
         Report::Dump => show_dump(book, writer),
-    }
-}
-
-/// Writes what a book holds, in that format.
-fn holdings<W: CountedWrite, S: Alter>(
-    alloc: Global,
-    day: Option<Day>,
-    format: Format,
-    book: &mut Book<S>,
-    writer: &mut W,
-) -> Result<(), ShowFault>
-    ensures shows { HoldsOfBook S.Store book.old book.new (λ entries.
-        ShowsHoldingsAs format day entries
-        (W.contents writer.old) (W.contents writer.new) result) }
-    ensures some { ShowsSomeHoldingsAs format day
-        (W.contents writer.old) (W.contents writer.new) result }
-    ensures rows { HoldsOfTables S.Store book.old book.new (λ tables.
-        ShowsAllHoldingsAs format day tables
-        (W.contents writer.old) (W.contents writer.new) result) }
-    ensures reads { ReadsBook S.Store book.old book.new result }
-    ensures cause { HasCause result (writes_between (W.calls writer.old) (W.calls writer.new)) }
-{
-    match format {
-        Format::Text => show_holdings(alloc, book, day, writer),
-        Format::Csv => show_holdings_csv(alloc, book, day, writer),
-    }
-}
-
-/// Writes what the sales of a book gained, in that format.
-fn gains<W: CountedWrite, S: Alter>(
-    alloc: Global,
-    first: Option<Day>,
-    last: Option<Day>,
-    format: Format,
-    book: &mut Book<S>,
-    writer: &mut W,
-) -> Result<(), ShowFault>
-    ensures shows { HoldsOfBook S.Store book.old book.new (λ entries.
-        ShowsGainsAs format (first, last) entries
-        (W.contents writer.old) (W.contents writer.new) result) }
-    ensures some { ShowsSomeGainsAs format
-        (W.contents writer.old) (W.contents writer.new) result }
-    ensures rows { HoldsOfTables S.Store book.old book.new (λ tables.
-        ShowsAllGainsAs format (first, last) tables
-        (W.contents writer.old) (W.contents writer.new) result) }
-    ensures reads { ReadsBook S.Store book.old book.new result }
-    ensures cause { HasCause result (writes_between (W.calls writer.old) (W.calls writer.new)) }
-{
-    match format {
-        Format::Text => show_gains(alloc, book, first, last, writer),
-        Format::Csv => show_gains_csv(alloc, book, first, last, writer),
     }
 }
 

@@ -1,2 +1,4 @@
 pub mod GatherLemmas
+pub mod HeldLemmas
+pub mod LawLemmas
 pub mod ShowLemmas

@@ -15,7 +15,7 @@ ghost use Rattle.sqlite.specs.Held.{state};
 ghost use Rattle.sqlite.specs.State.{HasCleanDisk};
 
 use crate::gathering::gather;
-use crate::tally::Tally;
+use crate::tally::Table;
 use lot_book_report::ShowFault;
 use lot_io::CountedWrite;
 use lot_store::Walk;
@@ -27,7 +27,7 @@ use sqlite::Alter;
 ///
 /// Where the book stops, or a sum leaves its range, nothing is written. In the contract rows are what the walk tells of them, and
 /// `tell` is what the table is told of that.
-pub fn show_table<S: Alter, P: Place, T: Tally<P::Row>, W: CountedWrite>(
+pub fn show_table<S: Alter, P: Place, T: Table<P::Row>, W: CountedWrite>(
     walk: &mut Walk<'_, S, P>,
     tally: &mut T,
     writer: &mut W,

@@ -19,7 +19,7 @@ use lot_cli::{
 };
 use lot_command::Key;
 use lot_completion::{Note, Watch};
-use lot_output::{Heard, Meter, Output, Pace, Record, Witness};
+use lot_output::{Heard, Meter, Output, Pace, Record, Witness, grow_stack};
 use lot_rounding::Asked;
 use lot_table::Queryable;
 use lot_verify::say_where;
@@ -111,6 +111,7 @@ fn speak<S: Alter>(
     if call.is_quiet() {
         return;
     }
+    grow_stack(call.rt);
     let fate = Fate::of(call, heard, &watched.remembered);
     explain(
         &*call,

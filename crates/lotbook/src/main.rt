@@ -17,11 +17,9 @@ use crate::system::System;
 use lot_call::words;
 use lot_files::Failure;
 use lot_host::run;
-use lot_output::grow_stack;
 use std::process::ExitCode;
 
 fn main(rt: HostRuntime) -> ExitCode {
-    grow_stack(&rt);
     let failure = Failure::none();
     let system = System::new(&rt, &failure);
     ExitCode::from(match words(&rt) {

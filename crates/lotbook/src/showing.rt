@@ -4,7 +4,7 @@ use crate::keeper::{Keep, Keeper};
 use crate::system::buffered;
 use lot_call::{say_cut_short, say_export_fault};
 use lot_cli::{CountedWriter, Halt, InputFault, Notes, Shown, show};
-use lot_output::Witness;
+use lot_output::{Witness, grow_stack};
 use lot_profile::Profile;
 
 /// Writes the ledger text that standard input comes to by a profile, says on standard error what is wrong with it, and returns the
@@ -26,6 +26,7 @@ pub fn show_on(rt: &HostRuntime, profile: &Profile, notes: Notes) -> u8 {
         halt,
         &reader.kept.bytes,
     ) {
+        grow_stack(rt);
         say_export_fault(rt, profile, fault, bytes.as_slice());
     }
     if let Some(error) = heard.failure
