@@ -117,9 +117,6 @@ unusable "--from" post --book f --batch a/b --from 0
 unusable "-a" post --book f --batch -a
 unusable "--book" journal --book f --book g
 unusable "UTF-8" post --book f --batch $'\xff'
-unusable "fault U2 BadValue --as-of" holdings --book f --as-of 2020-02-30
-unusable "fault U2 BadValue --as-of" holdings --book f --day x --as-of x
-unusable "--as-of" gains --book f --as-of 2020-01-01
 unusable "fault U2 BadValue --day" holdings --book f --day 2020-02-30
 unusable "\"2020-02-30\" isn't a day" holdings --book f --day 2020-02-30
 unusable "fault U2 BadValue --first" gains --book f --last x --first ''
@@ -128,7 +125,20 @@ for keys in years year, ,year 'year, term' '' Year 'year term' year,,term; do un
 unusable "fault U2 BadValue --first" gains --book f --by x --first x
 unusable "fault U2 BadValue --by" gains --book f --format x --by x
 unusable "--by" holdings --book f --by year
-for word in holdings gains; do
+for length in years '' Year year,month week; do unusable "fault U2 BadValue --by" activity --book f --by "$length"; done
+for account in '' : A Assets Asets: Assets:: :Assets: Assets:cash: Assets:Cash:: 'Assets: '; do
+    unusable "fault U2 BadValue --account" activity --book f --account "$account"
+done
+unusable "fault U2 BadValue --account" activity --book f --format x --by x --last x --first x --account x
+unusable "fault U2 BadValue --first" activity --book f --format x --by x --last x --first x
+unusable "fault U2 BadValue --last" activity --book f --format x --by x --last x
+unusable "fault U2 BadValue --by" activity --book f --format x --by x
+unusable "--account" gains --book f --account Income:
+unusable "--account" reconcile --book f
+unusable "fault U2 BadValue --account" reconcile --book f --account Assets --as-of x --format x
+unusable "fault U2 BadValue --as-of" reconcile --book f --account Assets: --as-of 2024-02-30 --format x
+unusable "fault U2 BadValue --format" reconcile --book f --account Assets:Cash --format x
+for word in holdings gains activity; do
     for format in json CSV ''; do unusable "fault U2 BadValue --format" "$word" --book f --format "$format"; done
 done
 unusable "--format" journal --book f --format csv
@@ -276,13 +286,15 @@ helps "--except A17" import -h
 helps "--profile profiles/degiro-transactions.toml" import -h
 helps "--keep-accepted" import -h
 helps "--show" import -h
-helps "--as-of 2024-12-31" holdings -h
 helps "--day 2024-12-31" holdings -h
 helps "it chooses prices alone" holdings -h
-for word in holdings gains; do helps "--format csv" "$word" -h; done
+for word in holdings gains activity; do helps "--format csv" "$word" -h; done
 helps "--first 2024-01-01" gains -h
 helps "--last 2024-12-31" gains -h
 helps "--by year,commodity" gains -h
+helps "--by quarter" activity -h
+helps "--as-of 2024-12-31" reconcile -h
+helps "--account Income:" activity -h
 helps "--book new.book" restore -h
 helps "--edited" restore -h
 helps "--keep-going" restore -h

@@ -1,3 +1,4 @@
-pub mod Gather
+pub mod Activity
 pub mod GainsBy
-pub mod Held
+pub mod Gather
+pub mod Reconciliation

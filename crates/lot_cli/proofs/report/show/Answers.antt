@@ -13,9 +13,6 @@ returns-in-Holdings-default-Csv-clause-shows g c =
     rw (c.in-Holdings-default-Csv.is, c.in-Holdings-default-Csv.format-is)
     (placed g.S.Store _ _ _ c.show_holdings_csv.ensures.shows)
 
-pub returns-in-HoldingsOn-clause-shows : goal.returns-in-HoldingsOn-clause-shows
-returns-in-HoldingsOn-clause-shows g c = rw (c.in-HoldingsOn.is) (placed g.S.Store _ _ _ c.show_holdings_on.ensures.shows)
-
 pub returns-in-Journal-clause-shows : goal.returns-in-Journal-clause-shows
 returns-in-Journal-clause-shows g c = rw c.in-Journal.is (placed g.S.Store _ _ _ c.show_journal.ensures.shows)
 
@@ -24,3 +21,8 @@ returns-in-Dump-clause-shows g c = rw c.in-Dump.is c.show_dump.ensures.shows
 
 pub returns-in-GainsBy-clause-shows : goal.returns-in-GainsBy-clause-shows
 returns-in-GainsBy-clause-shows g c = rw (c.in-GainsBy.is) (placed g.S.Store _ _ _ c.show_gains_by.ensures.shows)
+
+pub returns-in-Activity-clause-shows : goal.returns-in-Activity-clause-shows
+returns-in-Activity-clause-shows g c =
+    rw c.in-Activity.is
+    (rw (c.scope_of-scope.ensures, c.form_of-in-Activity.ensures) at (placed g.S.Store _ _ _ c.show_activity.ensures.shows))
