@@ -3,7 +3,7 @@
 # The subcommand of the line is one of these, or there is none where none is given.
 function __lotbook_word_is
     for token in (commandline -opc)
-        if contains -- $token init migrate post import holdings gains activity journal dump reconcile restore verify explain help
+        if contains -- $token init migrate post import holdings gains journal dump restore verify explain help
             contains -- $token $argv
             return
         end
@@ -18,10 +18,8 @@ complete -c lotbook -n '__lotbook_word_is' -a post -d 'Posts ledger text from st
 complete -c lotbook -n '__lotbook_word_is' -a import -d 'Posts the rows of a broker file from standard input to a book'
 complete -c lotbook -n '__lotbook_word_is' -a holdings -d 'Prints what a book holds now and what it cost'
 complete -c lotbook -n '__lotbook_word_is' -a gains -d 'Prints what each sale of a book earned, lot by lot'
-complete -c lotbook -n '__lotbook_word_is' -a activity -d 'Prints what went into accounts of a book and out of them, by period'
 complete -c lotbook -n '__lotbook_word_is' -a journal -d 'Prints the accepted commands of a book as ledger text'
 complete -c lotbook -n '__lotbook_word_is' -a dump -d 'Prints a whole book as a text that says if it was changed'
-complete -c lotbook -n '__lotbook_word_is' -a reconcile -d 'Prints what differs between a statement and a book'
 complete -c lotbook -n '__lotbook_word_is' -a restore -d 'Makes a book of a dump from standard input'
 complete -c lotbook -n '__lotbook_word_is' -a verify -d 'Judges a book again from its entries and compares its tables'
 complete -c lotbook -n '__lotbook_word_is' -a explain -d 'Says what a code means that the program prints, and what helps'
@@ -81,30 +79,15 @@ complete -c lotbook -n '__lotbook_word_is holdings' -s h -l help -d 'Prints the 
 complete -c lotbook -n '__lotbook_word_is gains' -l book -r -F -d 'The file of the book'
 complete -c lotbook -n '__lotbook_word_is gains' -l first -x -d 'The first day whose sales are printed'
 complete -c lotbook -n '__lotbook_word_is gains' -l last -x -d 'The last day whose sales are printed'
-complete -c lotbook -n '__lotbook_word_is gains' -l by -x -a 'year commodity account term' -d 'Prints a table of sums in place of the sales'
 complete -c lotbook -n '__lotbook_word_is gains' -l format -x -a 'text csv' -d 'How it is written'
 complete -c lotbook -n '__lotbook_word_is gains' -l quiet -d 'Explains nothing on standard error, also where --explain-all is given'
 complete -c lotbook -n '__lotbook_word_is gains' -s h -l help -d 'Prints the help'
-complete -c lotbook -n '__lotbook_word_is activity' -l book -r -F -d 'The file of the book'
-complete -c lotbook -n '__lotbook_word_is activity' -l account -x -d 'The account'
-complete -c lotbook -n '__lotbook_word_is activity' -l first -x -d 'The first day that is counted'
-complete -c lotbook -n '__lotbook_word_is activity' -l last -x -d 'The last day that is counted'
-complete -c lotbook -n '__lotbook_word_is activity' -l by -x -a 'year quarter month' -d 'How long the periods are'
-complete -c lotbook -n '__lotbook_word_is activity' -l format -x -a 'text csv' -d 'How it is written'
-complete -c lotbook -n '__lotbook_word_is activity' -l quiet -d 'Explains nothing on standard error, also where --explain-all is given'
-complete -c lotbook -n '__lotbook_word_is activity' -s h -l help -d 'Prints the help'
 complete -c lotbook -n '__lotbook_word_is journal' -l book -r -F -d 'The file of the book'
 complete -c lotbook -n '__lotbook_word_is journal' -l quiet -d 'Explains nothing on standard error, also where --explain-all is given'
 complete -c lotbook -n '__lotbook_word_is journal' -s h -l help -d 'Prints the help'
 complete -c lotbook -n '__lotbook_word_is dump' -l book -r -F -d 'The file of the book'
 complete -c lotbook -n '__lotbook_word_is dump' -l quiet -d 'Explains nothing on standard error, also where --explain-all is given'
 complete -c lotbook -n '__lotbook_word_is dump' -s h -l help -d 'Prints the help'
-complete -c lotbook -n '__lotbook_word_is reconcile' -l book -r -F -d 'The file of the book'
-complete -c lotbook -n '__lotbook_word_is reconcile' -l account -x -d 'The account'
-complete -c lotbook -n '__lotbook_word_is reconcile' -l as-of -x -d 'The day of the statement'
-complete -c lotbook -n '__lotbook_word_is reconcile' -l format -x -a 'text csv' -d 'How it is written'
-complete -c lotbook -n '__lotbook_word_is reconcile' -l quiet -d 'Explains nothing on standard error, also where --explain-all is given'
-complete -c lotbook -n '__lotbook_word_is reconcile' -s h -l help -d 'Prints the help'
 complete -c lotbook -n '__lotbook_word_is restore' -l book -r -F -d 'The file of the new book'
 complete -c lotbook -n '__lotbook_word_is restore' -l edited -d 'Takes a dump that was changed on purpose'
 complete -c lotbook -n '__lotbook_word_is restore' -l keep-going -d 'Makes a book of the accepted commands where others are refused'
@@ -120,7 +103,7 @@ complete -c lotbook -n '__lotbook_word_is verify' -l digest -d 'Prints a second 
 complete -c lotbook -n '__lotbook_word_is verify' -l quiet -d 'Explains nothing on standard error, also where --explain-all is given'
 complete -c lotbook -n '__lotbook_word_is verify' -s h -l help -d 'Prints the help'
 complete -c lotbook -n '__lotbook_word_is explain' -s h -l help -d 'Prints the help'
-complete -c lotbook -n '__lotbook_word_is help' -a 'init migrate post import holdings gains activity journal dump reconcile restore verify explain help'
+complete -c lotbook -n '__lotbook_word_is help' -a 'init migrate post import holdings gains journal dump restore verify explain help'
 complete -c lotbook -n '__lotbook_word_is explain' -a N1 -d 'Syntax: the text is no number'
 complete -c lotbook -n '__lotbook_word_is explain' -a N2 -d 'TooManyDecimals: a number has more than eight decimals'
 complete -c lotbook -n '__lotbook_word_is explain' -a N3 -d 'TooLarge: a number is too large'

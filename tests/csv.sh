@@ -26,7 +26,6 @@ new_book "$book"
 for value in CSV tsv '' 'csv ' textcsv; do
     unusable --format holdings --book "$book" "--format=$value"
     unusable --format gains --book "$book" "--format=$value"
-    unusable --format activity --book "$book" "--format=$value"
 done
 unusable --format gains --book "$book" --format
 unusable --format gains --book "$book" --format csv --format csv
@@ -36,8 +35,7 @@ unusable --format journal --book "$book" --format csv
 
 written "gains of an empty book" 0 gains <<<"$columns"
 written "holdings of an empty book" 0 holdings <<<"account,commodity,units,acquired,label,unit_cost,currency,cost"
-written "activity of an empty book" 0 activity <<<"period,account,commodity,in,out"
-for word in holdings "holdings --day 2020-01-01" gains activity; do
+for word in holdings "holdings --day 2020-01-01" gains; do
     read -ra words <<<"$word"
     run "${words[@]}" --book "$scratch/missing.book" --format csv </dev/null
     answers "$word of a missing file" 4 "fault S1 NotABook"
@@ -92,8 +90,6 @@ damaged() {
 damaged "a second sale of no kind" "UPDATE sale SET kind = 3 WHERE entry = 6" gains <<<"$columns"$'\n'"$sold"
 damaged "a first sale of no kind" "UPDATE sale SET kind = 3 WHERE entry = 5" gains </dev/null
 damaged "a second sale without its legs" "DELETE FROM leg WHERE entry = 6 AND posting = 1" gains <<<"$columns"$'\n'"$sold"
-damaged "an entry without its day" "UPDATE entry SET body = 'x' || body WHERE number = 5" activity </dev/null
-damaged "legs of no entry" "DELETE FROM entry WHERE number = 4" activity </dev/null
 damaged "a lot of no day" "UPDATE lot SET cost_day = 99999999" holdings </dev/null
 damaged "a price of no day" "UPDATE price SET day = 99999999" holdings --day 9999-12-31 </dev/null
 written "two sales after that" 0 gains <<<"$columns"$'\n'"$sold"$'\n'"$later"
@@ -139,5 +135,4 @@ for word in "holdings" "holdings --day 2020-12-31" gains; do
     read -ra words <<<"$word --format csv"
     cut_short "$word" "1 70 4097" "${words[@]}" --book "$book"
 done
-cut_short activity "1 40" activity --format csv --book "$book"
 finish

@@ -125,20 +125,7 @@ for keys in years year, ,year 'year, term' '' Year 'year term' year,,term; do un
 unusable "fault U2 BadValue --first" gains --book f --by x --first x
 unusable "fault U2 BadValue --by" gains --book f --format x --by x
 unusable "--by" holdings --book f --by year
-for length in years '' Year year,month week; do unusable "fault U2 BadValue --by" activity --book f --by "$length"; done
-for account in '' : A Assets Asets: Assets:: :Assets: Assets:cash: Assets:Cash:: 'Assets: '; do
-    unusable "fault U2 BadValue --account" activity --book f --account "$account"
-done
-unusable "fault U2 BadValue --account" activity --book f --format x --by x --last x --first x --account x
-unusable "fault U2 BadValue --first" activity --book f --format x --by x --last x --first x
-unusable "fault U2 BadValue --last" activity --book f --format x --by x --last x
-unusable "fault U2 BadValue --by" activity --book f --format x --by x
-unusable "--account" gains --book f --account Income:
-unusable "--account" reconcile --book f
-unusable "fault U2 BadValue --account" reconcile --book f --account Assets --as-of x --format x
-unusable "fault U2 BadValue --as-of" reconcile --book f --account Assets: --as-of 2024-02-30 --format x
-unusable "fault U2 BadValue --format" reconcile --book f --account Assets:Cash --format x
-for word in holdings gains activity; do
+for word in holdings gains; do
     for format in json CSV ''; do unusable "fault U2 BadValue --format" "$word" --book f --format "$format"; done
 done
 unusable "--format" journal --book f --format csv
@@ -288,13 +275,10 @@ helps "--keep-accepted" import -h
 helps "--show" import -h
 helps "--day 2024-12-31" holdings -h
 helps "it chooses prices alone" holdings -h
-for word in holdings gains activity; do helps "--format csv" "$word" -h; done
+for word in holdings gains; do helps "--format csv" "$word" -h; done
 helps "--first 2024-01-01" gains -h
 helps "--last 2024-12-31" gains -h
 helps "--by year,commodity" gains -h
-helps "--by quarter" activity -h
-helps "--as-of 2024-12-31" reconcile -h
-helps "--account Income:" activity -h
 helps "--book new.book" restore -h
 helps "--edited" restore -h
 helps "--keep-going" restore -h

@@ -10,7 +10,7 @@ first=$examples/first-purchase.ledger
 reports() {
     local word before
     before=$(state "$2")
-    for word in holdings gains activity journal dump verify; do
+    for word in holdings gains journal dump verify; do
         run "$word" --book "$2/family.book" </dev/null
         expect "$1: $word" 0 "$scratch/$word"
     done
@@ -20,7 +20,7 @@ reports() {
 home=$scratch/home book=$scratch/home/family.book
 mkdir "$home"
 book_of "$book" a <"$first"
-for word in holdings gains activity journal dump verify; do "$program" "$word" --book "$book" </dev/null >"$scratch/$word"; done
+for word in holdings gains journal dump verify; do "$program" "$word" --book "$book" </dev/null >"$scratch/$word"; done
 
 # ---- without rights
 
@@ -33,7 +33,7 @@ chmod 755 "$home" && rm "$book-wal" && chmod 555 "$home"
 program=$unprivileged reports "without a log" "$home"
 chmod 755 "$home" && cp "$book" "$scratch/whole"
 seq -f '2020-01-01 open Assets:A%g' 2000 | limited 6000 post --book "$book" --batch many >/dev/null 2>&1
-for word in holdings gains activity journal dump verify; do
+for word in holdings gains journal dump verify; do
     cp -a "$home" "$scratch/copy" && "$program" "$word" --book "$scratch/copy/family.book" </dev/null >"$scratch/$word" && rm -r "$scratch/copy"
 done
 chmod 444 "$book" "$book-wal" && chmod 555 "$home"

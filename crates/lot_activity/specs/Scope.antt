@@ -1,8 +1,8 @@
 -- Which legs a report is over: those of some accounts, on the days of a range (docs/FORMATS.md,
 -- Activity).
-use denote.Ref.{Bor}
 use Rattle.std.specs.Prelude.{ℕ, ℤ, ◌==◌, ◌&&◌, Bool, true, if◌then◌else◌, List, Option, None, Some, codes, option_map}
 use Rattle.std.specs.List.{ends_with, starts_with}
+use Rattle.std.specs.String.{string_bytes}
 use Rattle.lot_base.specs.Text.{same_text}
 use Rattle.lot_walk.specs.Gains.{Range, is_within}
 use Rattle.lot_legs.specs.declared.leg.DatedLeg.{DatedLeg}
@@ -23,7 +23,7 @@ pub record Asked : Type 0 where
   pub days : Range
 
 abbrev pub asked_in : Scope → Asked
-asked_in scope = record { account = option_map (λ (text : Bor (List ℕ)). text.now) scope.account; days = (scope.first, scope.last) }
+asked_in scope = record { account = option_map string_bytes scope.account; days = (scope.first, scope.last) }
 
 -- whether a leg is asked for
 abbrev pub has : Asked → DatedLeg → Bool

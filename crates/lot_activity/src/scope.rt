@@ -1,4 +1,5 @@
 ghost use Rattle.std.specs.Prelude.{◌≡◌, option_map};
+ghost use Rattle.std.specs.String.{string_bytes};
 ghost use Rattle.lot_activity.specs.Scope.{asked_in, has, is_asked, is_of};
 ghost use Rattle.lot_walk.specs.Gains.{is_from, is_up_to, is_within};
 
@@ -6,23 +7,33 @@ use lot_base::{Account, Day};
 use lot_legs::DatedLeg;
 
 /// Which legs a report is over: those of some accounts, on the days of a range.
-#[derive(Clone, Copy)]
-pub struct Scope<'a> {
+pub struct Scope {
     /// The account that is asked for. With a colon at its end it stands for every account whose
     /// name begins with it. Without one, all accounts are asked for.
-    pub account: Option<&'a str>,
+    pub account: Option<String>,
     /// The first day of the range. Without one that end is open.
     pub first: Option<Day>,
     /// The last day of the range. Without one that end is open.
     pub last: Option<Day>,
 }
 
-impl Scope<'_> {
+impl Scope {
     /// Returns whether a leg is one of these.
     pub fn has(&self, leg: &DatedLeg) -> bool
         ensures { result ≡ has (asked_in self.now) leg.now }
     {
-        is_within(self.first, self.last, leg.day) && is_asked(self.account, &leg.account)
+        is_within(self.first, self.last, leg.day) && is_asked(&self.account, &leg.account)
+    }
+}
+
+impl Drop for Scope {
+    /// It is written out, so that callers don't prove again how each part is dropped.
+    fn drop(self) {
+        let Scope {
+            account: _account,
+            first: _first,
+            last: _last,
+        } = self;
     }
 }
 
@@ -54,11 +65,11 @@ fn is_up_to(last: Option<Day>, day: Day) -> bool
 }
 
 /// Returns whether an account is asked for.
-fn is_asked(asked: Option<&str>, account: &Account) -> bool
-    ensures { result ≡ is_asked (option_map (λ text. text.now) asked) account.now }
+fn is_asked(asked: &Option<String>, account: &Account) -> bool
+    ensures { result ≡ is_asked (option_map string_bytes asked.now) account.now }
 {
     match asked {
-        Some(asked) => is_of(asked, account.as_str()),
+        Some(asked) => is_of(asked.as_str(), account.as_str()),
         None => true,
     }
 }
@@ -70,6 +81,6 @@ fn is_of(asked: &str, account: &str) -> bool
     if asked.as_bytes().ends_with(b":") {
         account.as_bytes().starts_with(asked.as_bytes())
     } else {
-        account == asked
+        asked == account
     }
 }

@@ -26,7 +26,7 @@ use std::collections::BTreeMap;
 pub struct ActivityTable<'a> {
     alloc: Global,
     length: PeriodLength,
-    scope: &'a Scope<'a>,
+    scope: &'a Scope,
     form: TableForm,
     rows: Rows,
 }
@@ -37,7 +37,7 @@ impl<'a> ActivityTable<'a> {
     pub fn new(
         alloc: Global,
         length: PeriodLength,
-        scope: &'a Scope<'a>,
+        scope: &'a Scope,
         form: TableForm,
     ) -> ActivityTable<'a>
         ensures { IsTable (terms_with length (asked_in scope.now) form) [] result }
@@ -87,7 +87,7 @@ impl<'a> ActivityTable<'a> {
 }
 
 /// Returns whether a leg is counted: one of plain units that is asked for.
-fn is_counted(scope: &Scope<'_>, leg: &DatedLeg) -> bool
+fn is_counted(scope: &Scope, leg: &DatedLeg) -> bool
     ensures { result ≡ is_counted (asked_in scope.now) leg.now }
 {
     leg.lot.is_none() && scope.has(leg)

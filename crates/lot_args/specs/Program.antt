@@ -88,21 +88,11 @@ gains_app =
     book_app (codes "gains")
     (option_rule (codes "first") ∷ option_rule (codes "last") ∷ option_rule (codes "by") ∷ option_rule (codes "format") ∷ [])
 
-abbrev pub activity_app : App
-activity_app =
-    book_app (codes "activity")
-    (option_rule (codes "account") ∷ option_rule (codes "first") ∷ option_rule (codes "last") ∷ option_rule (codes "by")
-    ∷ option_rule (codes "format") ∷ [])
-
 abbrev pub journal_app : App
 journal_app = book_app (codes "journal") []
 
 abbrev pub dump_app : App
 dump_app = book_app (codes "dump") []
-
-abbrev pub reconcile_app : App
-reconcile_app =
-    book_app (codes "reconcile") (required_rule (codes "account") ∷ option_rule (codes "as-of") ∷ option_rule (codes "format") ∷ [])
 
 abbrev pub restore_app : App
 restore_app =
@@ -136,5 +126,5 @@ bare_app = with_rules named_app (flag_rule (codes "quiet") ∷ (rounding_rules +
 abbrev pub program_app : App
 program_app =
     with_words bare_app
-    (init_app ∷ migrate_app ∷ post_app ∷ import_app ∷ holdings_app ∷ gains_app ∷ activity_app ∷ journal_app
-    ∷ dump_app ∷ reconcile_app ∷ restore_app ∷ verify_app ∷ explain_app ∷ [])
+    (init_app ∷ migrate_app ∷ post_app ∷ import_app ∷ holdings_app ∷ gains_app ∷ journal_app
+    ∷ dump_app ∷ restore_app ∷ verify_app ∷ explain_app ∷ [])

@@ -12,7 +12,6 @@ use Rattle.lot_without.specs.declared.terms.Tolerance.TheVariants.{AllAccepted, 
 use Rattle.lot_without.specs.declared.value.By.{By}
 use Rattle.lot_without.specs.declared.value.By.TheVariants.{Key, Batch, Entries}
 use Rattle.lot_without.specs.declared.without.Without.{Without}
-use Rattle.lot_args.specs.Activity.{length_of}
 use Rattle.lot_args.specs.From.{from_of}
 use Rattle.lot_args.specs.Keys.{keys_of}
 use Rattle.lot_args.specs.Options.{day_of, except_of, first_bad, has_profile, has_row, is_given, is_set, is_shown, misplaced, missing_of, options_of, rounding_options, value_of, values_of}
@@ -20,9 +19,9 @@ use Rattle.lot_args.specs.Program.{program_app}
 use Rattle.lot_args.specs.Rounding.{rounding_of}
 use Rattle.lot_args.specs.declared.action.Action.{Action}
 use Rattle.lot_args.specs.declared.action.AskedImport.{AskedImport}
-use Rattle.lot_args.specs.declared.action.Action.TheVariants.{Check, Init, Migrate, Post, PostRow, Import, ImportBy, Report as Reporting, Reconcile, Restore, Verify}
+use Rattle.lot_args.specs.declared.action.Action.TheVariants.{Check, Init, Migrate, Post, PostRow, Import, ImportBy, Report as Reporting, Restore, Verify}
 use Rattle.lot_args.specs.declared.action.Report.{Report}
-use Rattle.lot_args.specs.declared.action.Report.TheVariants.{Holdings, Gains, GainsBy, Activity, Journal, Dump}
+use Rattle.lot_args.specs.declared.action.Report.TheVariants.{Holdings, Gains, GainsBy, Journal, Dump}
 use Rattle.lot_args.specs.declared.action.Format.{Format}
 use Rattle.lot_args.specs.declared.action.Format.TheVariants.{Text as AsText, Csv}
 use Rattle.lot_args.specs.declared.action.Keeping.{Keeping}
@@ -120,9 +119,6 @@ AsksForReport word rows (Gains first last format) =
 AsksForReport word rows (GainsBy first last by format) =
     (word ≡ codes "gains") × (is_given (codes "by") rows ≡ true) × (first ≡ day_of (codes "first") rows)
     × (last ≡ day_of (codes "last") rows) × (by.items ≡ keys_of rows) × (format ≡ format_of rows)
-AsksForReport word rows (Activity account length first last format) =
-    (word ≡ codes "activity") × (option_map string_bytes account ≡ first_of (codes "account") rows) × (length ≡ length_of rows)
-    × (first ≡ day_of (codes "first") rows) × (last ≡ day_of (codes "last") rows) × (format ≡ format_of rows)
 AsksForReport word rows Journal = word ≡ codes "journal"
 AsksForReport word rows Dump = word ≡ codes "dump"
 
@@ -144,9 +140,6 @@ WordAsks word rows (Import import) =
     × (import.rounding ≡ rounding_of rows) × (import.keeping ≡ keeping_of rows)
 WordAsks word rows (ImportBy import) = ⊥
 WordAsks word rows (Reporting book report) = IsBook rows (string_bytes book) × AsksForReport word rows report
-WordAsks word rows (Reconcile asked) =
-    (word ≡ codes "reconcile") × IsBook rows (string_bytes asked.book) × (string_bytes asked.account ≡ value_of (codes "account") rows)
-    × (asked.day ≡ day_of (codes "as-of") rows) × (asked.format ≡ format_of rows)
 WordAsks word rows (Restore restore) =
     (word ≡ codes "restore") × IsBook rows (string_bytes restore.book) × (restore.without.items ≡ without_of rows)
     × (restore.strictness ≡ strictness_of rows) × (restore.tolerance ≡ tolerance_of rows)

@@ -56,7 +56,7 @@ const PROGRAM: Word = Word {
 };
 
 /// The subcommands, in the order in which the help lists them.
-const WORDS: [Word; 13] = [
+const WORDS: [Word; 11] = [
     // `init --book FILE [--dry-run]`
     Word {
         name: "init",
@@ -175,37 +175,6 @@ const WORDS: [Word; 13] = [
             FORMAT,
         ],
     },
-    // `activity --book FILE [--account ACCOUNT] [--first DAY] [--last DAY] [--by PERIOD] [--format text|csv]`
-    Word {
-        name: "activity",
-        brief: "Prints what went into accounts of a book and out of them, by period",
-        about: "Prints what went into accounts of a book and out of them in plain units, posting by posting, for each period, account and commodity: lotbook activity --book family.book --account Income: --first 2024-01-01 --last 2024-12-31\n\nDividends, fees and interest of a year are what the accounts for them gave and took. Lots aren't counted: lotbook gains prints what their sales earned.",
-        options: &[
-            BOOK,
-            QUIET,
-            WordOption {
-                form: Form::Optional("ACCOUNT"),
-                name: "account",
-                help: "The account, as in --account Income:Dividends. With a colon at its end it stands for all accounts whose names begin so, as in --account Income:. Without it all accounts are printed",
-            },
-            WordOption {
-                form: Form::Optional("DAY"),
-                name: "first",
-                help: "The first day that is counted, as in --first 2024-01-01. Without it the first day of the book is",
-            },
-            WordOption {
-                form: Form::Optional("DAY"),
-                name: "last",
-                help: "The last day that is counted, as in --last 2024-12-31. Without it the last day of the book is",
-            },
-            WordOption {
-                form: Form::Optional("PERIOD"),
-                name: "by",
-                help: "How long the periods are, as in --by quarter: year, quarter or month. Without it a year",
-            },
-            FORMAT,
-        ],
-    },
     // `journal --book FILE`
     Word {
         name: "journal",
@@ -219,27 +188,6 @@ const WORDS: [Word; 13] = [
         brief: "Prints a whole book as a text that says if it was changed",
         about: "Prints a whole book as ledger text: lotbook dump --book family.book > family.dump\n\nThe first line says of which edition the book is and how many entries it has, the last line the SHA-256 of all before it: a copy that was cut short or changed is known to be. Between them stands the journal, each entry under its key.",
         options: &[BOOK, QUIET],
-    },
-    // `reconcile --book FILE --account ACCOUNT [--as-of DAY] [--format text|csv]`
-    Word {
-        name: "reconcile",
-        brief: "Prints what differs between a statement and a book",
-        about: "Prints what differs between a statement from standard input and what a book holds in an account, plain units and lots together: lotbook reconcile --book family.book --account Assets:Broker --as-of 2024-12-31 < statement.csv\n\nThe first record has to be commodity,units, and each other one has a commodity, which comes once, and how many units of it are held. One that isn't there counts as zero. The status is 1 where something differs, and 0 where nothing does.",
-        options: &[
-            BOOK,
-            QUIET,
-            WordOption {
-                form: Form::Required("ACCOUNT"),
-                name: "account",
-                help: "The account, as in --account Assets:Broker. With a colon at its end it stands for all accounts whose names begin so, as in --account Assets:Broker:",
-            },
-            WordOption {
-                form: Form::Optional("DAY"),
-                name: "as-of",
-                help: "The day of the statement, as in --as-of 2024-12-31: what was held at its end is compared. Without it what is held now is",
-            },
-            FORMAT,
-        ],
     },
     // `restore --book NEW [--edited] [--keep-going] [--without KEY]... [--without-batch SOURCE]... [--without-entries A-B]...
     // [--compare OLD] [--dry-run]`

@@ -1,0 +1,14 @@
+pub mod HaltLine
+pub mod Says
+pub mod Init
+pub mod Restore
+pub mod Differ
+pub mod Dumped
+pub mod Runs
+pub mod Reports
+pub mod Check
+pub mod Serve
+pub mod Sessions
+pub mod Reopen
+pub mod AllOrNone
+pub mod Shows

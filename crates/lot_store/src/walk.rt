@@ -113,6 +113,20 @@ impl<S: Alter> Book<S> {
         }
     }
 
+    /// Returns a walk from a place. It reads nothing yet. What the walk gives is what the place gives.
+    pub fn walk_from<P: Place>(&mut self, place: P) -> Walk<'_, S, P>
+        ensures same_reference { result.book.ghost_name ≡ self.entry.ghost_name }
+        ensures same { result.book.now ≡ self.old }
+        ensures going { result.stage ≡ Stage.Going }
+        ensures place { result.place ≡ place }
+    {
+        Walk {
+            book: self,
+            place,
+            stage: Stage::Going,
+        }
+    }
+
     /// Returns a walk over all that the book holds, before the first row. It reads nothing yet.
     pub fn holdings(&mut self) -> Holdings<'_, S>
         ensures same_reference { result.book.ghost_name ≡ self.entry.ghost_name }

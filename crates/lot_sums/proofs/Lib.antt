@@ -1,4 +1,2 @@
-pub mod ActivityLemmas
 pub mod GatherLemmas
-pub mod ReconciliationLemmas
 pub mod ShowLemmas

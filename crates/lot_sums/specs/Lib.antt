@@ -1,4 +1,2 @@
-pub mod Activity
-pub mod GainsBy
 pub mod Gather
-pub mod Reconciliation
+pub mod GainsBy

@@ -21,8 +21,3 @@ returns-in-Dump-clause-shows g c = rw c.in-Dump.is c.show_dump.ensures.shows
 
 pub returns-in-GainsBy-clause-shows : goal.returns-in-GainsBy-clause-shows
 returns-in-GainsBy-clause-shows g c = rw (c.in-GainsBy.is) (placed g.S.Store _ _ _ c.show_gains_by.ensures.shows)
-
-pub returns-in-Activity-clause-shows : goal.returns-in-Activity-clause-shows
-returns-in-Activity-clause-shows g c =
-    rw c.in-Activity.is
-    (rw (c.scope_of-scope.ensures, c.form_of-in-Activity.ensures) at (placed g.S.Store _ _ _ c.show_activity.ensures.shows))

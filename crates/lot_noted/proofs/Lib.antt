@@ -1,0 +1,4 @@
+pub mod BareLemmas
+pub mod DayLemmas
+pub mod KeyLemmas
+pub mod SumLemmas
