@@ -1,3 +1,2 @@
 mod SelectLemmas
-pub mod LookLemmas
 pub mod SumsLemmas

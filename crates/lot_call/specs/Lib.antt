@@ -1,7 +1,9 @@
+pub mod Access
 pub mod Except
 pub mod Fate
 pub mod Loaded
 pub mod Looks
+pub mod Pair
 pub mod Remains
 pub mod Rounding
 pub mod Sums

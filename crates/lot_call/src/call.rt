@@ -41,7 +41,10 @@ impl Call<'_> {
             Action::Check { .. }
             | Action::Init { .. }
             | Action::Migrate { .. }
-            | Action::Report { .. }
+            | Action::Holdings { .. }
+            | Action::Gains { .. }
+            | Action::Journal { .. }
+            | Action::Dump { .. }
             | Action::Restore(_)
             | Action::Verify { .. } => None,
         }

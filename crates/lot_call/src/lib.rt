@@ -2,7 +2,7 @@
 //! its answer.
 //!
 //! - `arguments`: what they ask for, and what is said of those that can't be used.
-//! - `call`: what the program is called for; `status`: how a call ends.
+//! - `access`: what a call opens; `call`: what the program is called for; `status`: how a call ends.
 //! - `told`: why commands were refused, and what the codes mean; `facts`: what the book says of it, and `remembered`: what it
 //!   said of commands that aren't kept.
 //! - `notes`: what else is said of a call; `fate`: what became of one that keeps all or none; `remains`: what remains of one whose
@@ -14,6 +14,7 @@
 //!   `figures` and `signs`.
 #![tactic(auto)]
 
+mod access;
 mod arguments;
 mod call;
 mod crumbs;
@@ -35,7 +36,8 @@ mod taken;
 mod told;
 mod watched;
 
-pub use arguments::{say_words_fault, warn, words};
+pub use access::{access_of, path_of};
+pub use arguments::understand;
 pub use call::{Call, rounding_of};
 pub use crumbs::Crumbs;
 pub use export::{say_aside, say_export_fault};

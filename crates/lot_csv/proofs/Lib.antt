@@ -1,6 +1,5 @@
 mod FieldLemmas
 mod LawLemmas
-mod LotLemmas
 mod RecordLemmas
 mod ShareLemmas
 mod SumLemmas

@@ -1,4 +1,3 @@
 pub mod FormLemmas
 mod ShellLemmas
 pub mod SiteLemmas
-pub mod ExplainedLemmas

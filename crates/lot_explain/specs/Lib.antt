@@ -4,9 +4,7 @@ pub mod Commas
 pub mod Commodity
 pub mod Crumbs
 pub mod Finding
-pub mod Pair
 pub mod Records
 pub mod Residual
 pub mod Shell
 pub mod Site
-pub mod Explained

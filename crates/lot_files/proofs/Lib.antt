@@ -1,3 +1,1 @@
-pub mod CopyLemmas
 pub mod MediumLemmas
-pub mod OpenLemmas

@@ -1,5 +1,4 @@
 pub mod Cause
-pub mod Copy
 pub mod Image
 pub mod Medium
 pub mod Noted

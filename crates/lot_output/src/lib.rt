@@ -4,7 +4,6 @@
 //! - `output`: standard output; `meter`: how far a run is, on standard error.
 //! - `record`: bytes that are kept. `heard`: what was heard of a call, and a writer that hears it;
 //!   `course`: how far a run came, by its replies.
-//! - `stack`: the stack, which can't grow where memory has ended.
 #![tactic(auto)]
 
 mod course;
@@ -12,11 +11,9 @@ mod heard;
 mod meter;
 mod output;
 mod record;
-mod stack;
 
 pub use course::Course;
 pub use heard::{Heard, Witness};
 pub use meter::Meter;
-pub use output::{Output, Pace};
+pub use output::Output;
 pub use record::Record;
-pub use stack::grow_stack;

@@ -19,5 +19,5 @@ returns-in-Journal-clause-shows g c = rw c.in-Journal.is (placed g.S.Store _ _ _
 pub returns-in-Dump-clause-shows : goal.returns-in-Dump-clause-shows
 returns-in-Dump-clause-shows g c = rw c.in-Dump.is c.show_dump.ensures.shows
 
-pub returns-in-GainsBy-clause-shows : goal.returns-in-GainsBy-clause-shows
-returns-in-GainsBy-clause-shows g c = rw (c.in-GainsBy.is) (placed g.S.Store _ _ _ c.show_gains_by.ensures.shows)
+pub returns-in-Digest-clause-shows : goal.returns-in-Digest-clause-shows
+returns-in-Digest-clause-shows g c = rw c.in-Digest.is c.show_digest.ensures.shows

@@ -1,4 +1,0 @@
-pub mod Access
-pub mod Answers
-pub mod Done
-pub mod Run

@@ -1,0 +1,24 @@
+use Rattle.std.proofs.Common.{◌≡◌, ◌++◌, ◌+◌, ◌≤◌, length, map}
+use Rattle.std.specs.Prelude.{unsigned_abs}
+use Rattle.lot_inv.specs.declared.foremost.Foremost.TheVariants.{Highest}
+use Rattle.lot_inv.specs.ByNumber.{from_highest}
+use Rattle.lot_inv.specs.Holding.{listed, takeable_lots}
+use Rattle.lot_inv.specs.Inventory.{held_in, with_number}
+use Rattle.lot_inv.specs.Lot.{key_and_units}
+use Rattle.lot_inv.proofs.LentLemmas.{AreByDay}
+use Rattle.lot_inv.proofs.lots.Lots.highest_first.Given as goal
+
+-- the lots so far and those of what is left are all that are gone through, number by number, and they hold what is wanted but for
+-- what is left of it
+abbrev pub invariant-loop-key : goal.invariant-loop-key
+invariant-loop-key l =
+    let behind = listed (from_highest l.entries) in
+    record {
+      all : l.lots.items ++ takeable_lots l.units (with_number l.number l.spec) behind
+          ≡ takeable_lots l.units (with_number l.number l.spec) (listed (from_highest l.initial.entries));
+      by_day : AreByDay Highest (l.lots.items ++ behind);
+      held : unsigned_abs l.units ≤ l.left + held_in (map key_and_units l.lots.items);
+    }
+
+abbrev pub decreases-loop-key : goal.decreases-loop-key
+decreases-loop-key l = length (from_highest l.entries)

@@ -1,4 +1,0 @@
-pub mod BareLemmas
-pub mod DayLemmas
-pub mod KeyLemmas
-pub mod SumLemmas

@@ -1,2 +1,0 @@
-pub mod Period
-pub mod Term

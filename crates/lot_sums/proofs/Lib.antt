@@ -1,2 +1,0 @@
-pub mod GatherLemmas
-pub mod ShowLemmas

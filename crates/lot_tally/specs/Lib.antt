@@ -1,3 +1,0 @@
-pub mod Lots
-pub mod Rows
-pub mod Table
