@@ -23,7 +23,7 @@ _lotbook_options() {
             echo --dry-run --all-or-none --explain-all --keep-accepted --show --quiet --help
             ;;
         holdings) echo --book --day --format --quiet --help ;;
-        gains) echo --book --first --last --format --quiet --help ;;
+        gains) echo --book --first --last --by --format --quiet --help ;;
         journal) echo --book --quiet --help ;;
         dump) echo --book --quiet --help ;;
         restore)
@@ -65,6 +65,10 @@ _lotbook() {
             ;;
         --format)
             _lotbook_offer -W "text csv"
+            return
+            ;;
+        --by)
+            _lotbook_offer -W "year commodity account term"
             return
             ;;
         --batch | --cash | --day | --decimals | --except | --fees | --first | --from | --gains | --invest | --last | --ref | --rounding | --row-of | --within | --without | --without-batch | --without-entries) return ;;

@@ -79,6 +79,7 @@ complete -c lotbook -n '__lotbook_word_is holdings' -s h -l help -d 'Prints the 
 complete -c lotbook -n '__lotbook_word_is gains' -l book -r -F -d 'The file of the book'
 complete -c lotbook -n '__lotbook_word_is gains' -l first -x -d 'The first day whose sales are printed'
 complete -c lotbook -n '__lotbook_word_is gains' -l last -x -d 'The last day whose sales are printed'
+complete -c lotbook -n '__lotbook_word_is gains' -l by -x -a 'year commodity account term' -d 'Prints a table of sums in place of the sales'
 complete -c lotbook -n '__lotbook_word_is gains' -l format -x -a 'text csv' -d 'How it is written'
 complete -c lotbook -n '__lotbook_word_is gains' -l quiet -d 'Explains nothing on standard error, also where --explain-all is given'
 complete -c lotbook -n '__lotbook_word_is gains' -s h -l help -d 'Prints the help'

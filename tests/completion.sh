@@ -101,6 +101,7 @@ for word in $words; do
                 offers "$word $option" "$(options_in_help "$word")" "$word" "$option" ""
                 ;;
             --format) offers "$word $option" $'csv\ntext' "$word" "$option" "" ;;
+            --by) offers "$word $option" $'account\ncommodity\nterm\nyear' "$word" "$option" "" ;;
             *) offers "$word $option" "" "$word" "$option" "" ;;
         esac
     done

@@ -7,7 +7,7 @@ in_memory
 need_program
 
 book=$scratch/family.book
-columns=entry,posting,account,commodity,units,acquired,sold,days_held,label,unit_cost,currency,proceeds,cost,gain
+columns=entry,posting,account,commodity,units,acquired,sold,days_held,label,unit_cost,currency,proceeds,cost,gain,term
 
 # written NAME STATUS WORDS..: the table that the words ask for is what stands on this call's input.
 written() {
@@ -60,8 +60,8 @@ cat >"$scratch/sales" <<'END'
   Income:Gains
 2020-04-01 price HOOL 140 USD
 END
-sold="5,1,Assets:Broker,HOOL,-3,2020-01-01,2020-02-15,45,,100,USD,375.00,300.00,75.00"
-later="6,1,Assets:Broker,HOOL,-4,2020-01-01,2020-03-15,74,,100,USD,520.00,400.00,120.00"
+sold="5,1,Assets:Broker,HOOL,-3,2020-01-01,2020-02-15,45,,100,USD,375.00,300.00,75.00,up-to-a-year"
+later="6,1,Assets:Broker,HOOL,-4,2020-01-01,2020-03-15,74,,100,USD,520.00,400.00,120.00,up-to-a-year"
 book_of "$book" a <"$scratch/sales" || fail "sales" "they aren't accepted"
 written "two sales" 0 gains <<<"$columns"$'\n'"$sold"$'\n'"$later"
 before=$(kept "$book")
@@ -107,7 +107,7 @@ awk -v columns="$columns" 'BEGIN {
     for (n = 0; n < 1800; n++) {
         share = n % 3 == 2 ? "130.33333334" : "130.33333333"
         gain = n % 3 == 2 ? "30.08333334" : "30.08333333"
-        printf "%d,1,Assets:Broker,HOOL,-1,2020-02-01,2020-02-02,1,\"a, %06d\",100.25,USD,%s,100.25,%s\n", 4004 + n / 3, n, share, gain
+        printf "%d,1,Assets:Broker,HOOL,-1,2020-02-01,2020-02-02,1,\"a, %06d\",100.25,USD,%s,100.25,%s,up-to-a-year\n", 4004 + n / 3, n, share, gain
     }
 }' >"$scratch/sold"
 written "many sales" 0 gains <"$scratch/sold"
@@ -116,7 +116,7 @@ written "many sales" 0 gains <"$scratch/sold"
 
 if office=$(command -v soffice || command -v libreoffice); then
     cp "$scratch/sold" "$scratch/sold.csv"
-    as_text=$(seq -f '%g/2' -s / 14) # each column as text, so that no field is written in another form
+    as_text=$(seq -f '%g/2' -s / 15) # each column as text, so that no field is written in another form
     timeout 300 "$office" "-env:UserInstallation=file://$scratch/office" --headless "--infilter=CSV:44,34,76,1,$as_text" \
         --convert-to "csv:Text - txt - csv (StarCalc):44,34,76,1,,0,false,true" --outdir "$scratch/read" "$scratch/sold.csv" >"$scratch/out" 2>&1
     if python3 -c 'import csv, sys; a, b = ([*csv.reader(open(f, newline=""))] for f in sys.argv[1:]); sys.exit(a != b)' \

@@ -121,6 +121,10 @@ unusable "fault U2 BadValue --day" holdings --book f --day 2020-02-30
 unusable "\"2020-02-30\" isn't a day" holdings --book f --day 2020-02-30
 unusable "fault U2 BadValue --first" gains --book f --last x --first ''
 unusable "fault U2 BadValue --last" gains --book f --last x --first 2020-01-01
+for keys in years year, ,year 'year, term' '' Year 'year term' year,,term; do unusable "fault U2 BadValue --by" gains --book f --by "$keys"; done
+unusable "fault U2 BadValue --first" gains --book f --by x --first x
+unusable "fault U2 BadValue --by" gains --book f --format x --by x
+unusable "--by" holdings --book f --by year
 for word in holdings gains; do
     for format in json CSV ''; do unusable "fault U2 BadValue --format" "$word" --book f --format "$format"; done
 done
@@ -274,6 +278,7 @@ helps "it chooses prices alone" holdings -h
 for word in holdings gains; do helps "--format csv" "$word" -h; done
 helps "--first 2024-01-01" gains -h
 helps "--last 2024-12-31" gains -h
+helps "--by year,commodity" gains -h
 helps "--book new.book" restore -h
 helps "--edited" restore -h
 helps "--keep-going" restore -h

@@ -15,7 +15,7 @@ Word = namedtuple("Word", "name usage brief about options")
 Option = namedtuple("Option", "name value help is_repeated", defaults=(False,))
 
 # What an option takes, where the shell can offer it.
-CHOICES = {"format": ("text", "csv")}
+CHOICES = {"format": ("text", "csv"), "by": ("year", "commodity", "account", "term")}
 FILES = ("book", "compare", "profile")
 
 

@@ -224,9 +224,15 @@ def proceeds_of(kind, amount, units, legs):
     return [share * model.ONE * (-1 if units > 0 else 1) for share in (*parts, amount - sum(parts))]
 
 
+def term_of(acquired, sold):
+    """How long a lot was held, by its day numbers (docs/FORMATS.md, Tables for a spreadsheet)."""
+    (year, *rest), end = ([int(part) for part in day_text(day).split("-")] for day in (acquired, sold))
+    return "over-a-year" if end > [year + 1, *([2, 28] if rest == [2, 29] else rest)] else "up-to-a-year"
+
+
 def gains_csv(path):
     """The lines that the program prints of these rows as CSV (docs/FORMATS.md, Tables for a spreadsheet)."""
-    lines = ["entry,posting,account,commodity,units,acquired,sold,days_held,label,unit_cost,currency,proceeds,cost,gain"]
+    lines = ["entry,posting,account,commodity,units,acquired,sold,days_held,label,unit_cost,currency,proceeds,cost,gain,term"]
     with connect(path) as db:
         for (entry, posting, day, account, commodity, units, kind, amount, currency), legs in sales_of(db):
             is_priced = kind and all(leg[2] == currency for leg in legs)
@@ -235,7 +241,7 @@ def gains_csv(path):
                 cost = -taken * number
                 money = ["" if it is None else model.money_text(it, 16) for it in (got, cost, None if got is None else got - cost)]
                 record = [entry, posting, account, commodity, model.number_text(taken), day_text(acquired), day_text(day), day - acquired]
-                lines.append(record_text([*record, label, model.number_text(number), cost_currency, *money]))
+                lines.append(record_text([*record, label, model.number_text(number), cost_currency, *money, term_of(acquired, day)]))
     return lines
 
 

@@ -5,7 +5,7 @@
 The plain records are written from docs/FORMATS.md and docs/RULES.md alone, over the entries of the plain judge of tests/random/.
 Each ledger is posted to a new book; then its holdings, with and without days, and its gains, whole and in ranges, are asked for as
 CSV. What is printed has to be what Python's `csv` writes of the plain records, byte for byte, and to read back as they are. Of the
-same gains as text, each sale has to be what its records add up to, exactly. A case is the ledgers of a hundred seeds, or a kind of
+same gains as text, each sale has to be what its records add up to, exactly; and so has each row of a table by keys. A case is the ledgers of a hundred seeds, or a kind of
 record, which has to occur. A difference goes to standard error, with its seed.
 """
 
@@ -35,16 +35,19 @@ from model import ONE, day_text, key_order, number_text
 getcontext().prec = 60
 
 A_CASE = 100  # seeds
-GAINS = "entry,posting,account,commodity,units,acquired,sold,days_held,label,unit_cost,currency,proceeds,cost,gain".split(",")
+GAINS = "entry,posting,account,commodity,units,acquired,sold,days_held,label,unit_cost,currency,proceeds,cost,gain,term".split(",")
 HOLDINGS = "account,commodity,units,acquired,label,unit_cost,currency,cost".split(",")
 VALUES = ["price", "value"]
+SUMS = "currency,lots,proceeds,cost,gain".split(",")
+KEYS = {"year": lambda record: record["sold"][:4], **{key: lambda record, key=key: record[key] for key in ("commodity", "account", "term")}}
 
 draw.LABELS = (None, None, None, "a", "b", "é", "a lot; {}", "of ten, the first") # some with a comma
 
 KINDS = (
     "a price of each unit", "a total price", "a total that a lot has no whole part of", "a total of several lots", "an unpriced sale",
-    "a short that is covered", "a lot that is sold before its day", "a label in quotes", "a plain position", "a lot with a price",
-    "a lot without a price", "no sales", "nothing held",
+    "a short that is covered", "a lot that is sold before its day", "a lot that is held over a year", "a label in quotes",
+    "a plain position", "a lot with a price", "a lot without a price", "no sales", "nothing held", "a row of several sales",
+    "a row with priced and unpriced lots", "rows in two currencies",
 )
 
 
@@ -56,6 +59,12 @@ def shares(total, units, legs):
     """The shares of legs in the price of all units: parts cut at eight decimals, the last what is left."""
     parts = [total * abs(leg.units) // abs(units) for leg in legs[:-1]]
     return parts + [total - sum(parts)]
+
+
+def term(acquired, sold):
+    """Over a year where the sale is later than the same day of the next year, which for 29 February is 28 February."""
+    year, month, day = acquired
+    return "over-a-year" if sold > (year + 1, month, 28 if (month, day) == (2, 29) else day) else "up-to-a-year"
 
 
 def gains(book, first, last, seen):
@@ -84,15 +93,51 @@ def gains(book, first, last, seen):
                 cost = -leg.units * leg.key.number
                 held = ordinal(entry.command.day) - ordinal(leg.key.day)
                 seen["a lot that is sold before its day"] += held < 0
+                seen["a lot that is held over a year"] += term(leg.key.day, entry.command.day) == "over-a-year"
                 seen["a label in quotes"] += "," in (leg.key.label or "")
                 records.append([
                     str(number), str(place), posting.account, posting.amount.commodity, number_text(leg.units),
                     day_text(leg.key.day), day_text(entry.command.day), str(held), leg.key.label or "",
                     number_text(leg.key.number), leg.key.currency, "" if got is None else reports.money(got), reports.money(cost),
-                    "" if got is None else reports.money(got - cost),
+                    "" if got is None else reports.money(got - cost), term(leg.key.day, entry.command.day),
                 ])
     seen["no sales"] += not records
     return [GAINS] + records
+
+
+def total(records, name):
+    return reports.money(sum(int(Decimal(record[name]) * 10**16) for record in records))
+
+
+def gains_by(keys, records, seen):
+    """The table by these keys, as CSV and as text, of the records of gains."""
+    records = [dict(zip(GAINS, record)) for record in records[1:]]
+    table, text = [keys + SUMS], []
+    rows = collections.defaultdict(list)
+    for record in records:
+        rows[tuple(KEYS[key](record) for key in keys) + (record["currency"],)].append(record)
+    by_bytes = lambda mark: sorted(rows, key=lambda row: ("".join(field + mark for field in row[:-1]).encode(), row[-1].encode()))
+    for mark in (",", " "):
+        for row in by_bytes(mark):
+            priced = [record for record in rows[row] if record["gain"]]
+            others = [record for record in rows[row] if not record["gain"]]
+            seen["a row of several sales"] += len({(record["entry"], record["posting"]) for record in priced}) > 1
+            seen["a row with priced and unpriced lots"] += bool(priced and others)
+            if mark == ",":
+                table += [[*row, str(len(lots)), total(lots, "proceeds") if lots is priced else "", total(lots, "cost"),
+                           total(lots, "gain") if lots is priced else ""] for lots in (priced, others) if lots]
+                continue
+            front = f"{' '.join(row)} lots"
+            if priced:
+                sums = " ".join(f"{name} {total(priced, name)}" for name in ("proceeds", "cost", "gain"))
+                text.append(f"{front} {len(priced)} {sums}")
+            if others:
+                text.append(f"{front} {len(others)} cost {total(others, 'cost')} unpriced")
+    currencies = sorted({record["currency"] for record in records if record["gain"]}, key=str.encode)
+    seen["rows in two currencies"] += len(currencies) > 1
+    for currency in currencies:
+        text.append(f"total gain {total([r for r in records if r['gain'] and r['currency'] == currency], 'gain')} {currency}")
+    return table, "".join(line + "\n" for line in text or ["no gains"])
 
 
 def holdings(book, day, seen):
@@ -180,6 +225,16 @@ def compare(program, scratch, seed):
             differs = sums_differ(plain[0], got[0])
             if differs:
                 found += f"--- {' '.join(words)}: {differs}\n"
+    whole = reports.FIRST_DAY, reports.LAST_DAY
+    some = rng.sample(sorted(KEYS), rng.randint(1, len(KEYS)))
+    # A drawn ledger has few sales, so a row has several of them by a single key, if at all.
+    for (first, last), keys in [*((whole, [key]) for key in KEYS), (ranges[0] if ranges else whole, some)]:
+        table, plain = gains_by(keys, gains(drawing.book, first, last, seen), seen)
+        words = ["gains", "--book", book, "--by", ",".join(keys), "--first", day_text(first), "--last", day_text(last)]
+        for wanted, more in ((written(table), ["--format", "csv"]), (plain, [])):
+            got = call(program, words + more)
+            if got != (wanted, 0, ""):
+                found += f"--- {' '.join(words + more)}, wanted\n{wanted}--- got, status {got[1]}\n{got[0]}{got[2]}"
     tables.removed(book)
     return found and text.decode() + found, seen
 

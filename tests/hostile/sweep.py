@@ -61,10 +61,10 @@ REPORT = re.compile(
 FIELD = r'([^",\\\x00-\x1f\x7f]*|"[^"\\\x00-\x1f\x7f]+")'
 TABLE = re.compile(
     r"account,commodity,units,acquired,label,unit_cost,currency,cost(,price,value)?"
-    r"|entry,posting,account,commodity,units,acquired,sold,days_held,label,unit_cost,currency,proceeds,cost,gain"
+    r"|entry,posting,account,commodity,units,acquired,sold,days_held,label,unit_cost,currency,proceeds,cost,gain,term"
     rf"|{ACCOUNT},{COMMODITY},{NUMBER},({DAY},{FIELD},{NUMBER},{COMMODITY},{NUMBER}|,,,,)(,({NUMBER},{NUMBER}|,))?"
     rf"|{COUNT},{COUNT},{ACCOUNT},{COMMODITY},{NUMBER},{DAY},{DAY},-?[0-9]+,{FIELD},{NUMBER},{COMMODITY}"
-    rf",({NUMBER},{NUMBER},{NUMBER}|,{NUMBER},)"
+    rf",({NUMBER},{NUMBER},{NUMBER}|,{NUMBER},),(up-to|over)-a-year"
 )
 REPLY = re.compile(rf"{COUNT} (accepted|repeat|refused [LB][0-9]+ [A-Za-z]+( posting {COUNT}| {COMMODITY})?)")
 KEY = re.compile(rf"; entry {COUNT} key [^\x00-\x1f\x7f]+")

@@ -29,7 +29,7 @@ OPTIONS = {
         "--from": "1",
     },
     "holdings": {"--book": "f", "--day": "2020-01-01", "--format": "csv"},
-    "gains": {"--book": "f", "--first": "2020-01-01", "--last": "2020-01-01", "--format": "text"},
+    "gains": {"--book": "f", "--first": "2020-01-01", "--last": "2020-01-01", "--by": "year,term", "--format": "text"},
     "journal": {"--book": "f"},
     "dump": {"--book": "f"},
     "restore": {"--book": "f"},
@@ -39,7 +39,7 @@ OPTIONS = {
 HEADER = b"ref,date,action,symbol,units,price,currency,fee\n"
 REQUIRED = ("--book", "--batch", "--invest", "--cash", "--fees", "--gains")
 # Values outside each option's rule, of which the program itself says which option it is: `clap` reads the value of --from.
-BAD = {"--batch": "/", "--invest": "A", "--cash": "A", "--fees": "A", "--gains": "A", "--day": "x", "--first": "x", "--last": "x", "--format": "x"}
+BAD = {"--batch": "/", "--invest": "A", "--cash": "A", "--fees": "A", "--gains": "A", "--day": "x", "--first": "x", "--last": "x", "--by": "x", "--format": "x"}
 
 
 def words_of_books(program):

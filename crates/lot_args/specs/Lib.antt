@@ -6,6 +6,7 @@ pub mod Rounding
 pub mod Program
 pub mod Required
 pub mod Table
+pub mod Keys
 pub mod Options
 pub mod Faults
 pub mod Words

@@ -8,14 +8,15 @@ use Rattle.lot_base.specs.Day.{named_day}
 use Rattle.lot_base.specs.Name.{is_account, is_label}
 use Rattle.lot_args.specs.Batch.{is_batch}
 use Rattle.lot_args.specs.From.{from_of}
+use Rattle.lot_args.specs.Keys.{are_keys}
 use Rattle.lot_args.specs.Rounding.{named_bound}
 use Rattle.lot_without.specs.Value.{named}
-use Rattle.lot_without.specs.declared.value.By.{By}
+use Rattle.lot_without.specs.declared.value.By.{By as ByWhat}
 use Rattle.lot_without.specs.declared.value.By.TheVariants.{Key, Batch as ByBatch, Entries}
 use Rattle.lot_args.specs.declared.fault.BadOption.{BadOption}
 use Rattle.lot_args.specs.declared.fault.Needed.{Needed}
 use Rattle.lot_args.specs.declared.fault.Needed.TheVariants.{Accounts, Book, BatchOrRow}
-use Rattle.lot_args.specs.declared.fault.BadOption.TheVariants.{Show, KeepAccepted, Batch, PostBatch, RowOf, Ref, From, Invest, Cash, Fees, Gains, Except, Rounding, Within, Decimals, Day, First, Last, Format, Without, WithoutBatch, WithoutEntries}
+use Rattle.lot_args.specs.declared.fault.BadOption.TheVariants.{Show, KeepAccepted, Batch, PostBatch, RowOf, Ref, From, Invest, Cash, Fees, Gains, Except, Rounding, Within, Decimals, Day, First, Last, By, Format, Without, WithoutBatch, WithoutEntries}
 
 -- ---- values
 
@@ -57,6 +58,7 @@ name_of Decimals = codes "decimals"
 name_of Day = codes "day"
 name_of First = codes "first"
 name_of Last = codes "last"
+name_of By = codes "by"
 name_of Format = codes "format"
 name_of Without = codes "without"
 name_of WithoutBatch = codes "without-batch"
@@ -113,11 +115,11 @@ abbrev pub is_format : Text → Bool
 is_format text = bytes_eq text (codes "text") || bytes_eq text (codes "csv")
 
 -- whether the text names entries of a dump
-abbrev pub names_entries : By → Text → Bool
+abbrev pub names_entries : ByWhat → Text → Bool
 names_entries by text = is_some (named by text)
 
 -- whether each value of the option does, which need not be given
-abbrev pub all_name_entries : By → Text → List Row → Bool
+abbrev pub all_name_entries : ByWhat → Text → List Row → Bool
 all_name_entries by name rows = list_all (names_entries by) (values_of name rows)
 
 -- whether the value of the option is within its rule: of a post for a row `--batch` isn't given and `--from` is 1; `--ref` is
@@ -143,6 +145,7 @@ is_good rows Decimals = has_rounding rows || not (is_given (codes "decimals") ro
 is_good rows Day = has_day (codes "day") rows
 is_good rows First = has_day (codes "first") rows
 is_good rows Last = has_day (codes "last") rows
+is_good rows By = option_map_or are_keys (first_of (codes "by") rows) true
 is_good rows Format = option_map_or is_format (first_of (codes "format") rows) true
 is_good rows Without = all_name_entries Key (codes "without") rows
 is_good rows WithoutBatch = all_name_entries ByBatch (codes "without-batch") rows
@@ -164,7 +167,7 @@ options_of word =
     else (if bytes_eq word (codes "import")
     then Show ∷ KeepAccepted ∷ Batch ∷ (account_options ++ Except ∷ (rounding_options ++ From ∷ []))
     else (if bytes_eq word (codes "holdings") then Day ∷ Format ∷ []
-    else (if bytes_eq word (codes "gains") then First ∷ Last ∷ Format ∷ []
+    else (if bytes_eq word (codes "gains") then First ∷ Last ∷ By ∷ Format ∷ []
     else (if bytes_eq word (codes "restore") then Without ∷ WithoutBatch ∷ WithoutEntries ∷ [] else []))))
 
 -- the first of the options whose value is outside its rule

@@ -85,7 +85,8 @@ holdings_app = book_app (codes "holdings") (option_rule (codes "day") ∷ option
 
 abbrev pub gains_app : App
 gains_app =
-    book_app (codes "gains") (option_rule (codes "first") ∷ option_rule (codes "last") ∷ option_rule (codes "format") ∷ [])
+    book_app (codes "gains")
+    (option_rule (codes "first") ∷ option_rule (codes "last") ∷ option_rule (codes "by") ∷ option_rule (codes "format") ∷ [])
 
 abbrev pub journal_app : App
 journal_app = book_app (codes "journal") []

@@ -13,12 +13,15 @@ use Rattle.lot_without.specs.declared.value.By.{By}
 use Rattle.lot_without.specs.declared.value.By.TheVariants.{Key, Batch, Entries}
 use Rattle.lot_without.specs.declared.without.Without.{Without}
 use Rattle.lot_args.specs.From.{from_of}
-use Rattle.lot_args.specs.Options.{day_of, except_of, first_bad, has_profile, has_row, is_set, is_shown, misplaced, missing_of, options_of, rounding_options, value_of, values_of}
+use Rattle.lot_args.specs.Keys.{keys_of}
+use Rattle.lot_args.specs.Options.{day_of, except_of, first_bad, has_profile, has_row, is_given, is_set, is_shown, misplaced, missing_of, options_of, rounding_options, value_of, values_of}
 use Rattle.lot_args.specs.Program.{program_app}
 use Rattle.lot_args.specs.Rounding.{rounding_of}
 use Rattle.lot_args.specs.declared.action.Action.{Action}
 use Rattle.lot_args.specs.declared.action.AskedImport.{AskedImport}
-use Rattle.lot_args.specs.declared.action.Action.TheVariants.{Check, Init, Migrate, Post, PostRow, Import, ImportBy, Holdings, Gains, Journal, Dump, Restore, Verify}
+use Rattle.lot_args.specs.declared.action.Action.TheVariants.{Check, Init, Migrate, Post, PostRow, Import, ImportBy, Report as Reporting, Restore, Verify}
+use Rattle.lot_args.specs.declared.action.Report.{Report}
+use Rattle.lot_args.specs.declared.action.Report.TheVariants.{Holdings, Gains, GainsBy, Journal, Dump}
 use Rattle.lot_args.specs.declared.action.Format.{Format}
 use Rattle.lot_args.specs.declared.action.Format.TheVariants.{Text as AsText, Csv}
 use Rattle.lot_args.specs.declared.action.Keeping.{Keeping}
@@ -106,6 +109,19 @@ notes_of before rows =
 abbrev pub IsBook : List Row → List ℕ → Type 0
 IsBook rows path = path ≡ value_of (codes "book") rows
 
+-- a word with the values of its options asks for the report
+abbrev pub AsksForReport : Text → List Row → Report → Type 0
+AsksForReport word rows (Holdings day format) =
+    (word ≡ codes "holdings") × (day ≡ day_of (codes "day") rows) × (format ≡ format_of rows)
+AsksForReport word rows (Gains first last format) =
+    (word ≡ codes "gains") × (is_given (codes "by") rows ≡ false) × (first ≡ day_of (codes "first") rows)
+    × (last ≡ day_of (codes "last") rows) × (format ≡ format_of rows)
+AsksForReport word rows (GainsBy first last by format) =
+    (word ≡ codes "gains") × (is_given (codes "by") rows ≡ true) × (first ≡ day_of (codes "first") rows)
+    × (last ≡ day_of (codes "last") rows) × (by.items ≡ keys_of rows) × (format ≡ format_of rows)
+AsksForReport word rows Journal = word ≡ codes "journal"
+AsksForReport word rows Dump = word ≡ codes "dump"
+
 -- a word with the values of its options asks for the action
 abbrev pub WordAsks : Text → List Row → Action → Type 0
 WordAsks word rows (Check rounding) = ⊥
@@ -123,13 +139,7 @@ WordAsks word rows (Import import) =
     × (import.accounts ≡ accounts_of rows) × (import.from ≡ from_of rows) × (import.except.items ≡ except_of rows)
     × (import.rounding ≡ rounding_of rows) × (import.keeping ≡ keeping_of rows)
 WordAsks word rows (ImportBy import) = ⊥
-WordAsks word rows (Holdings book day format) =
-    (word ≡ codes "holdings") × IsBook rows (string_bytes book) × (day ≡ day_of (codes "day") rows) × (format ≡ format_of rows)
-WordAsks word rows (Gains book first last format) =
-    (word ≡ codes "gains") × IsBook rows (string_bytes book) × (first ≡ day_of (codes "first") rows)
-    × (last ≡ day_of (codes "last") rows) × (format ≡ format_of rows)
-WordAsks word rows (Journal book) = (word ≡ codes "journal") × IsBook rows (string_bytes book)
-WordAsks word rows (Dump book) = (word ≡ codes "dump") × IsBook rows (string_bytes book)
+WordAsks word rows (Reporting book report) = IsBook rows (string_bytes book) × AsksForReport word rows report
 WordAsks word rows (Restore restore) =
     (word ≡ codes "restore") × IsBook rows (string_bytes restore.book) × (restore.without.items ≡ without_of rows)
     × (restore.strictness ≡ strictness_of rows) × (restore.tolerance ≡ tolerance_of rows)

@@ -6,6 +6,7 @@ use lot_base::{Day, Label};
 use lot_import::Accounts;
 use lot_profile::Profile;
 use lot_rounding::Rounding;
+use lot_tally::GainKey;
 use lot_without::{Strictness, Tolerance, Without};
 
 /// How a report is written.
@@ -128,6 +129,33 @@ pub struct Restore {
     pub compare: Option<String>,
 }
 
+/// A report of a book. It is read, and stays as it is.
+#[derive(Drop)]
+pub enum Report {
+    /// What it holds. With a day, also what its lots are worth on it.
+    Holdings {
+        day: Option<Day>,
+        format: Format,
+    },
+    /// What its sales gained from the first day to the last, both included. Without a day that end of the range is open.
+    Gains {
+        first: Option<Day>,
+        last: Option<Day>,
+        format: Format,
+    },
+    /// What the same sales gained in all, by keys.
+    GainsBy {
+        first: Option<Day>,
+        last: Option<Day>,
+        by: Vec<GainKey>,
+        format: Format,
+    },
+    /// Its entries.
+    Journal,
+    /// Its entries, between two lines by which the book can be made again.
+    Dump,
+}
+
 /// What the program is asked to do. A book is named by the path of its file. Where a rounding account is named, commands are
 /// completed with it.
 #[derive(Drop)]
@@ -157,27 +185,10 @@ pub enum Action {
     Import(Import),
     /// The rows of a broker's file are posted to a book as a profile says.
     ImportBy(ImportBy),
-    /// What a book holds is written. With a day, what its lots are worth on it is written, too.
-    Holdings {
+    /// A report of a book is written.
+    Report {
         book: String,
-        day: Option<Day>,
-        format: Format,
-    },
-    /// What the sales of a book gained is written: the sales from the first day to the last, both included. Without a day that
-    /// end of the range is open.
-    Gains {
-        book: String,
-        first: Option<Day>,
-        last: Option<Day>,
-        format: Format,
-    },
-    /// The entries of a book are written.
-    Journal {
-        book: String,
-    },
-    /// The entries of a book are written, between two lines by which the book can be made again.
-    Dump {
-        book: String,
+        report: Report,
     },
     /// A book is made of a dump.
     Restore(Restore),

@@ -45,6 +45,8 @@ pub enum BadOption {
     First,
     /// `--last`: its value isn't a day.
     Last,
+    /// `--by`: its value isn't a list of keys joined by commas.
+    By,
     /// `--format`: its value is neither `text` nor `csv`.
     Format,
     /// `--without`: one of its values isn't a key.
@@ -78,6 +80,7 @@ impl BadOption {
             BadOption::Day => "day",
             BadOption::First => "first",
             BadOption::Last => "last",
+            BadOption::By => "by",
             BadOption::Format => "format",
             BadOption::Without => "without",
             BadOption::WithoutBatch => "without-batch",

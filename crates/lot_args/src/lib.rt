@@ -25,7 +25,9 @@ mod values;
 mod without;
 mod words;
 
-pub use action::{Action, AskedImport, Format, Import, ImportBy, Keeping, Post, Restore, Saying};
+pub use action::{
+    Action, AskedImport, Format, Import, ImportBy, Keeping, Post, Report, Restore, Saying,
+};
 pub use batch::Batch;
 pub use fault::{BadOption, Needed, WordsFault};
 pub use request::{Effect, Notes, Request};

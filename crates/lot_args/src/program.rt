@@ -149,7 +149,7 @@ const WORDS: [Word; 11] = [
             FORMAT,
         ],
     },
-    // `gains --book FILE [--first DAY] [--last DAY] [--format text|csv]`
+    // `gains --book FILE [--first DAY] [--last DAY] [--by KEYS] [--format text|csv]`
     Word {
         name: "gains",
         brief: "Prints what each sale of a book earned, lot by lot",
@@ -166,6 +166,11 @@ const WORDS: [Word; 11] = [
                 form: Form::Optional("DAY"),
                 name: "last",
                 help: "The last day whose sales are printed, as in --last 2024-12-31. Without it they end with the last sale",
+            },
+            WordOption {
+                form: Form::Optional("KEYS"),
+                name: "by",
+                help: "Prints a table of sums in place of the sales, as in --by year,commodity: year, commodity, account or term, or several joined by commas",
             },
             FORMAT,
         ],

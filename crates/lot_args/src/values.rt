@@ -1,7 +1,7 @@
 //! What the values of options say, and which are outside their rules.
 //!
 //! All values are looked at before one is kept: what keeps one knows that it is within its rule.
-ghost use Rattle.std.specs.Prelude.{◌≡◌, false, IfOk, IsTrue, [], ◌∷◌, None, codes, map, option_map};
+ghost use Rattle.std.specs.Prelude.{◌≡◌, false, IfOk, IsTrue, [], ◌∷◌, None, codes, filter_map, map, option_map};
 ghost use Rattle.lot_base.specs.Name.{is_label};
 ghost use Rattle.std.specs.List.{list_all};
 ghost use Rattle.std.specs.String.{string_bytes};
@@ -11,6 +11,7 @@ ghost use Rattle.lot_args.specs.Options.{account_options, day_of, except_of, fir
 ghost use Rattle.lot_args.specs.Options.{is_format, is_good, is_good_account, is_given, is_set, misplaced, name_of, options_of};
 ghost use Rattle.lot_args.specs.Options.{rounding_options, value_of};
 ghost use Rattle.lot_args.specs.From.{from_of};
+ghost use Rattle.lot_args.specs.Keys.{are_keys, key_named, keys_in, keys_of, parts_of};
 ghost use Rattle.lot_args.specs.Number.{number_of};
 ghost use Rattle.lot_args.specs.Rounding.{decimals_of, named_bound, rounding_of, within_of};
 ghost use Rattle.lot_args.specs.Words.{accounts_of, effect_of, format_of, keeping_by_profile, keeping_of, notes_of, saying_of};
@@ -29,6 +30,7 @@ use lot_base::{Account, Day, Label};
 use lot_import::Accounts;
 use lot_num::Units;
 use lot_rounding::{Bound, Decimals, Rounding};
+use lot_tally::GainKey;
 use lot_without::{By, Strictness, Tolerance};
 use std::alloc::{AllocError, Global};
 
@@ -76,7 +78,12 @@ pub(crate) fn options_of(word: &str) -> &'static [BadOption]
             BadOption::From,
         ],
         "holdings" => &[BadOption::Day, BadOption::Format],
-        "gains" => &[BadOption::First, BadOption::Last, BadOption::Format],
+        "gains" => &[
+            BadOption::First,
+            BadOption::Last,
+            BadOption::By,
+            BadOption::Format,
+        ],
         "restore" => &[
             BadOption::Without,
             BadOption::WithoutBatch,
@@ -141,6 +148,10 @@ fn is_good(options: &ArgMatches<'_>, option: BadOption) -> bool
         BadOption::Within | BadOption::Decimals => !is_given(options, name),
         BadOption::Day | BadOption::First | BadOption::Last => match given(options, name) {
             Some(text) => Day::parse(text).is_ok(),
+            None => true,
+        },
+        BadOption::By => match given(options, name) {
+            Some(text) => are_keys(text),
             None => true,
         },
         BadOption::Format => match given(options, name) {
@@ -321,6 +332,65 @@ pub(crate) fn day(options: &ArgMatches<'_>, option: BadOption) -> Option<Day>
     ensures { result ≡ day_of (name_of option) (rows_of (found_of options.now)) }
 {
     Day::parse(given(options, option.name())?).ok()
+}
+
+/// Returns whether a text names keys of a table of gains, joined by commas.
+fn are_keys(text: &str) -> bool
+    ensures { result ≡ are_keys text.now }
+{
+    text.split(',').all(|part| key_named(part).is_some())
+}
+
+/// Returns the keys of a table of gains, or none where the option isn't given. The only error is out of memory.
+pub(crate) fn keys(alloc: Global, options: &ArgMatches<'_>) -> Result<Vec<GainKey>, AllocError>
+    ensures { IfOk result (λ keys. keys.items ≡ keys_of (rows_of (found_of options.now))) }
+{
+    match given(options, "by") {
+        Some(text) => keys_in(alloc, text),
+        None => Ok(Vec::new(alloc)),
+    }
+}
+
+/// Returns the keys that a text names, joined by commas. The only error is out of memory.
+fn keys_in(alloc: Global, text: &str) -> Result<Vec<GainKey>, AllocError>
+    ensures { IfOk result (λ keys. keys.items ≡ keys_in text.now) }
+{
+    let parts = parts(alloc, text)?;
+    keys_named(alloc, &parts)
+}
+
+/// Returns what stands between the commas of a text. The only error is out of memory.
+fn parts<'a>(alloc: Global, text: &'a str) -> Result<Vec<&'a str>, AllocError>
+    ensures { IfOk result (λ parts. map (λ part. part.now) parts.items ≡ parts_of text.now) }
+{
+    text.split(',').collect(alloc)
+}
+
+/// Returns the keys with these names. The only error is out of memory.
+fn keys_named(alloc: Global, names: &[&str]) -> Result<Vec<GainKey>, AllocError>
+    ensures { IfOk result (λ keys.
+        keys.items ≡ filter_map key_named (map (λ name. name.now) names.now)) }
+{
+    let mut keys = Vec::new(alloc);
+    for name in names {
+        if let Some(key) = key_named(name) {
+            keys.push(key)?;
+        }
+    }
+    Ok(keys)
+}
+
+/// Returns the key of a table of gains that has that name.
+fn key_named(name: &str) -> Option<GainKey>
+    ensures { result ≡ key_named name.now }
+{
+    match name {
+        "year" => Some(GainKey::Year),
+        "commodity" => Some(GainKey::Commodity),
+        "account" => Some(GainKey::Account),
+        "term" => Some(GainKey::Term),
+        _ => None,
+    }
 }
 
 /// Returns whether a text says how a report is written.

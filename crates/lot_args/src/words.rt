@@ -7,18 +7,18 @@ ghost use Rattle.lot_args.specs.declared.fault.Needed.{Needed};
 ghost use Rattle.lot_args.specs.Program.{program_app};
 ghost use Rattle.lot_args.specs.Steps.{IsBookWord, IsWord, JudgesOptions};
 ghost use Rattle.lot_args.specs.Words.{Ask, AskFor, HaveBadIn, HaveMisplaced, LackSome, WordAsks, WordRequests};
-ghost use Rattle.lot_args.specs.Words.{AsksToImport};
+ghost use Rattle.lot_args.specs.Words.{AsksForReport, AsksToImport};
 ghost use Rattle.lot_args.specs.declared.fault.WordsFault.TheVariants.{BadValue, Misplaced, MissingOptions, Usage};
 
-use crate::action::{Action, AskedImport, Import, Post, Restore};
+use crate::action::{Action, AskedImport, Import, Post, Report, Restore};
 use crate::fault::{BadOption, WordsFault};
 use crate::needed::{has_profile, has_row, is_shown, missing};
 use crate::program::program;
 use crate::request::{Effect, Request};
 use crate::values::{
-    accounts, batch, day, effect, except, first_bad, format, from, keeping, keeping_by_profile,
-    misplaced, notes, options_of, reference, rounding, rounding_options, saying, strictness, text,
-    tolerance, value,
+    accounts, batch, day, effect, except, first_bad, format, from, is_given, keeping,
+    keeping_by_profile, keys, misplaced, notes, options_of, reference, rounding, rounding_options,
+    saying, strictness, text, tolerance, value,
 };
 use crate::without::without;
 use clap::ArgMatches;
@@ -205,19 +205,22 @@ fn action(alloc: Global, word: &str, options: &ArgMatches<'_>) -> Result<Action,
             rounding: rounding(alloc, options)?,
             keeping: keeping(options),
         })),
-        "holdings" => Ok(Action::Holdings {
+        "holdings" => Ok(Action::Report {
             book,
-            day: day(options, BadOption::Day),
-            format: format(options),
+            report: holdings(options),
         }),
-        "gains" => Ok(Action::Gains {
+        "gains" => Ok(Action::Report {
             book,
-            first: day(options, BadOption::First),
-            last: day(options, BadOption::Last),
-            format: format(options),
+            report: gains(alloc, options)?,
         }),
-        "journal" => Ok(Action::Journal { book }),
-        "dump" => Ok(Action::Dump { book }),
+        "journal" => Ok(Action::Report {
+            book,
+            report: Report::Journal,
+        }),
+        "dump" => Ok(Action::Report {
+            book,
+            report: Report::Dump,
+        }),
         "restore" => Ok(Action::Restore(Restore {
             book,
             without: without(alloc, options)?,
@@ -230,4 +233,36 @@ fn action(alloc: Global, word: &str, options: &ArgMatches<'_>) -> Result<Action,
             saying: saying(options),
         }),
     }
+}
+
+/// Returns the report that `holdings` asks for.
+fn holdings(options: &ArgMatches<'_>) -> Report
+    ensures { AsksForReport (codes "holdings") (rows_of (found_of options.now)) result }
+{
+    Report::Holdings {
+        day: day(options, BadOption::Day),
+        format: format(options),
+    }
+}
+
+/// Returns the report that `gains` asks for. The only error is out of memory.
+fn gains(alloc: Global, options: &ArgMatches<'_>) -> Result<Report, AllocError>
+    ensures { IfOk result (AsksForReport (codes "gains") (rows_of (found_of options.now))) }
+{
+    let first = day(options, BadOption::First);
+    let last = day(options, BadOption::Last);
+    let format = format(options);
+    if !is_given(options, "by") {
+        return Ok(Report::Gains {
+            first,
+            last,
+            format,
+        });
+    }
+    Ok(Report::GainsBy {
+        first,
+        last,
+        by: keys(alloc, options)?,
+        format,
+    })
 }

@@ -26,6 +26,7 @@ use Rattle.lot_book_report.specs.Csv.{AreGood, AreRecordsOf, ShowsAllCsvWith, Sh
 use Rattle.lot_book_report.specs.Holdings.{KeepsPrices, KeepsRowPrices, valued_with}
 use Rattle.lot_book_report.specs.Show.{IsOfBook, ReadsBook}
 use Rattle.lot_book_report.specs.declared.prices.DayPrices.{DayPrices}
+use Rattle.lot_book_report.proofs.FeedLemmas.{all_with}
 use Rattle.lot_book_report.proofs.PriceLemmas.{all_valued, none_valued}
 use Rattle.lot_csv.specs.Holdings.{holdings_header}
 use Rattle.lot_csv.specs.declared.holdings.Columns.TheVariants.{Costs, Values}
@@ -45,10 +46,6 @@ use Rattle.lot_walk.proofs.PriceLemmas.{prices_at_day}
 use Rattle.lot_walk.specs.Holdings.{AreAllHoldingRows, IsAnyHolding, IsHoldings, merged}
 use Rattle.lot_walk.specs.Prices.{prices_by}
 use Rattle.lot_walk.specs.declared.gains.NumberedSale.{NumberedSale}
-
-all_with : {X : Type 0} (P : X → Type 0) (xs : List X) (x : X) → AllByRecursion P xs → P x → AllByRecursion P (xs ++ x ∷ [])
-all_with P [] x all more = (more, tt)
-all_with P (first ∷ xs) x all more = (all.0, all_with P xs x all.1 more)
 
 one_more : {X : Type 0} (records : X → List (List ℕ)) (rows : List X) (row : X) → text_of records (rows ++ row ∷ []) ≡ text_of records rows ++ joined (records row)
 one_more records rows row =

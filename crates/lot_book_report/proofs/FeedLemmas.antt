@@ -123,7 +123,7 @@ module _ {S Place Asked Shown Row Kept : Type 0} (g : Ghosts S) (IsGood : Shown 
   ShowsRows after now = HoldsOfTables g book after (λ tables. (all : List Shown) × AreAllRows asked tables all × AllByRecursion IsGood all
       × WritesWhole lines fits IsEnd (map told all) start now)
 
-all_with : {X : Type 0} (P : X → Type 0) (xs : List X) (x : X) → AllByRecursion P xs → P x → AllByRecursion P (xs ++ x ∷ [])
+pub all_with : {X : Type 0} (P : X → Type 0) (xs : List X) (x : X) → AllByRecursion P xs → P x → AllByRecursion P (xs ++ x ∷ [])
 all_with P [] x all more = (more, tt)
 all_with P (first ∷ xs) x all more = (all.0, all_with P xs x all.1 more)
 

@@ -5,11 +5,12 @@ use Rattle.lot_cost.specs.declared.lot_key.LotKey.{LotKey}
 use Rattle.lot_cost.specs.declared.method.Method.{Method}
 use Rattle.lot_cost.specs.declared.method.Method.TheVariants.{Strict, Fifo, Lifo, Hifo, Unmatched}
 use Rattle.lot_inv.specs.declared.foremost.Foremost.{Foremost}
-use Rattle.lot_inv.specs.declared.foremost.Foremost.TheVariants.{Oldest, Newest, Highest}
+use Rattle.lot_inv.specs.declared.foremost.Foremost.TheVariants.{Oldest, Newest, Highest, OldestOpened, NewestOpened, HighestOpened}
 use Rattle.lot_inv.specs.declared.lot.Lot.{Lot}
 use Rattle.lot_inv.specs.Foremost.{AreLentOf, numbered}
 use Rattle.lot_inv.specs.Inventory.{held_in}
 use Rattle.lot_booking.specs.declared.edition.Edition.{Edition}
+use Rattle.lot_booking.specs.declared.edition.Edition.TheVariants.{First, Second}
 use Rattle.lot_booking.specs.declared.fault.BookingFault.{BookingFault}
 use Rattle.lot_booking.specs.declared.fault.BookingFault.TheVariants.{ZeroUnits, InexactCost, IncompleteCost, NoMatch, Ambiguous, NotEnough, Memory}
 use Rattle.lot_booking.specs.Booking.{is_incomplete}
@@ -50,18 +51,21 @@ FallShort method lots held amount InexactCost = ⊥
 FallShort method lots held amount IncompleteCost = ⊥
 FallShort method lots held amount Memory = ⊥
 
--- the lots that a method takes first
-abbrev pub foremost_of : Method → Foremost
-foremost_of Strict = Oldest
-foremost_of Fifo = Oldest
-foremost_of Lifo = Newest
-foremost_of Hifo = Highest
-foremost_of Unmatched = Oldest
+-- the lots that a method takes first in an edition
+abbrev pub foremost_of : Method → Edition → Foremost
+foremost_of Strict edition = Oldest
+foremost_of Fifo First = Oldest
+foremost_of Fifo Second = OldestOpened
+foremost_of Lifo First = Newest
+foremost_of Lifo Second = NewestOpened
+foremost_of Hifo First = Highest
+foremost_of Hifo Second = HighestOpened
+foremost_of Unmatched edition = Oldest
 
 -- the legs are what units take by a method in an edition: of any lots that suffice, of which these are lent
 abbrev pub TakesLent : Method → Edition → List Lot → ℤ → List (LotKey × ℤ) → Type 0
 TakesLent method edition lent units legs =
     (opening : LotKey → ℕ) (all : List (LotKey × ℤ)) → HaveDistinctKeys all
     → Suffice method (length all) (held_in all) (unsigned_abs units)
-    → AreLentOf (foremost_of method) (unsigned_abs units) (numbered opening all) lent
+    → AreLentOf (foremost_of method edition) (unsigned_abs units) (numbered opening all) lent
     → Takes (rule_by (ties_by edition opening) method) (order_by (ties_by edition opening) method) all units legs

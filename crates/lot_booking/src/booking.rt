@@ -77,7 +77,7 @@ pub fn book(
         let legs = take_one(alloc, lot, units)?;
         return Ok(Booked { reduces, legs });
     }
-    let foremost = foremost_of(selection.method);
+    let foremost = foremost_of(selection);
     let lots = inventory.takeable(commodity, foremost, units, &number, spec)?;
     let legs = take_by(alloc, selection, lots, units)?;
     Ok(Booked { reduces, legs })
@@ -168,14 +168,18 @@ pub fn fitting(
     Ok(lots)
 }
 
-/// Returns which lots a method takes first.
-fn foremost_of(method: Method) -> Foremost
-    ensures { result ≡ foremost_of method }
+/// Returns which lots a selection takes first.
+fn foremost_of(selection: Selection) -> Foremost
+    ensures { result ≡ foremost_of selection.method selection.edition }
 {
-    match method {
-        Method::Strict | Method::Fifo | Method::Unmatched => Foremost::Oldest,
-        Method::Lifo => Foremost::Newest,
-        Method::Hifo => Foremost::Highest,
+    match (selection.method, selection.edition) {
+        (Method::Strict | Method::Unmatched, _) => Foremost::Oldest,
+        (Method::Fifo, Edition::First) => Foremost::Oldest,
+        (Method::Fifo, Edition::Second) => Foremost::OldestOpened,
+        (Method::Lifo, Edition::First) => Foremost::Newest,
+        (Method::Lifo, Edition::Second) => Foremost::NewestOpened,
+        (Method::Hifo, Edition::First) => Foremost::Highest,
+        (Method::Hifo, Edition::Second) => Foremost::HighestOpened,
     }
 }
 

@@ -1,2 +1,3 @@
 mod SelectLemmas
+pub mod LookLemmas
 pub mod SumsLemmas

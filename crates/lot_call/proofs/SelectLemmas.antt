@@ -14,3 +14,11 @@ last_leg_selects = (_, refl, refl)
 pub first_lot_selects : IsSelect (codes "SELECT account, commodity, cost_day, cost_currency, cost_number, cost_label, units FROM lot WHERE account = ?1 ORDER BY account, commodity, cost_day, cost_currency, cost_number, cost_label LIMIT 1")
 unfolding everything
 first_lot_selects = (_, refl, refl)
+
+pub names_selects : IsSelect (codes "SELECT name FROM sqlite_schema LIMIT 1")
+unfolding everything
+names_selects = (_, refl, refl)
+
+pub marked_selects : IsSelect (codes "SELECT mark, edition FROM book WHERE mark = 'lot-book' ORDER BY mark")
+unfolding everything
+marked_selects = (_, refl, refl)

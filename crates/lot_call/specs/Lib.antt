@@ -1,9 +1,7 @@
-pub mod Access
 pub mod Except
 pub mod Fate
 pub mod Loaded
 pub mod Looks
-pub mod Pair
 pub mod Remains
 pub mod Rounding
 pub mod Sums

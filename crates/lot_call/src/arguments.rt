@@ -1,10 +1,13 @@
 //! The arguments of the program.
 
+ghost use Rattle.std.specs.Prelude.{◌≡◌, ◌⊎◌, IfErr};
+ghost use Rattle.lot_host.specs.Answers.{IsStatusOf, stopped, unusable};
+
 use crate::call::rounding_of;
 use crate::remains::say_cut_short;
 use crate::status::out_of_memory;
 use clap::error::ErrorKind as UsageKind;
-use lot_args::{BadOption, Needed, Notes, Request, WordsFault, parse_words, require_options};
+use lot_args::{BadOption, Needed, Notes, Request, WordsFault, require_options};
 use lot_base::Label;
 use lot_stream::{DONE, STOPPED, UNUSABLE};
 use lot_without::{By, Without};
@@ -27,17 +30,12 @@ const BY_PROFILE: &str =
 /// The longest value of an option that is shown where it is bad, in bytes.
 const LONGEST_SHOWN: usize = 80;
 
-/// Returns what the arguments ask for. Else help or the version was shown, or arguments that can't be used were reported, and
-/// it returns the status of the program.
-pub fn understand(rt: &HostRuntime) -> Result<Request, u8> {
-    match words(rt) {
-        Ok(words) => match parse_words(rt.alloc(), &words) {
-            Ok(request) => {
-                warn_of_comma(rt, &words, &request);
-                Ok(request)
-            }
-            Err(fault) => Err(answer(rt, &words, &fault)),
-        },
+/// Returns the arguments, the program's name first. The error is the status of the program: why they can't be used is said.
+pub fn words(rt: &HostRuntime) -> Result<Vec<String>, u8>
+    ensures { IfErr result (λ status. (status ≡ unusable) ⊎ (status ≡ stopped)) }
+{
+    match read_words(rt) {
+        Ok(words) => Ok(words),
         Err(error) if error.kind() == ErrorKind::OutOfMemory => Err(out_of_memory(rt)),
         Err(_) => {
             let _ = eprintln!(rt; "error: a word isn't UTF-8");
@@ -46,14 +44,14 @@ pub fn understand(rt: &HostRuntime) -> Result<Request, u8> {
     }
 }
 
-/// Returns the arguments, the program's name first.
-fn words(rt: &HostRuntime) -> io::Result<Vec<String>> {
+/// Returns the arguments.
+fn read_words(rt: &HostRuntime) -> io::Result<Vec<String>> {
     Ok(env::args(rt)?.collect(rt.alloc())?)
 }
 
 /// Warns on standard error of a comma in the bound of crumbs, which stands between digits and has no meaning. Where memory ends it
 /// doesn't.
-fn warn_of_comma(rt: &HostRuntime, words: &[String], request: &Request) {
+pub fn warn(rt: &HostRuntime, words: &[String], request: &Request) {
     let Request::Act {
         action,
         notes: Notes::Ten | Notes::All,
@@ -71,7 +69,9 @@ fn warn_of_comma(rt: &HostRuntime, words: &[String], request: &Request) {
 }
 
 /// Shows help or the version, or reports why arguments can't be used. Returns the status.
-fn answer(rt: &HostRuntime, words: &[String], fault: &WordsFault) -> u8 {
+pub fn say_words_fault(rt: &HostRuntime, words: &[String], fault: &WordsFault) -> u8
+    ensures { IsStatusOf fault.now result }
+{
     match fault {
         WordsFault::Usage(error) => match error.print(rt) {
             _ if error.use_stderr() => {
@@ -101,7 +101,9 @@ fn answer(rt: &HostRuntime, words: &[String], fault: &WordsFault) -> u8 {
 }
 
 /// Says on standard error which of the options that a call needs are missing, and shows such a call. Returns the status.
-fn say_missing(rt: &HostRuntime, words: &[String], needed: Needed) -> u8 {
+fn say_missing(rt: &HostRuntime, words: &[String], needed: Needed) -> u8
+    ensures { (result ≡ unusable) ⊎ (result ≡ stopped) }
+{
     match needed {
         Needed::BatchOrRow => {
             let _ = eprintln!(rt; "{NO_BATCH}");
@@ -249,6 +251,9 @@ fn form(option: BadOption) -> &'static str {
         BadOption::Day => "a day, as in --day 2024-12-31",
         BadOption::First => "a day, as in --first 2024-01-01",
         BadOption::Last => "a day, as in --last 2024-12-31",
+        BadOption::By => {
+            "year, commodity, account or term, or several joined by commas, as in --by year,account"
+        }
         BadOption::Format => "text or csv, as in --format csv",
         BadOption::Without => {
             "the key of an entry, its source and its name, as in --without \"import:broker A17\""

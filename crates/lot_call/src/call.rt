@@ -41,10 +41,7 @@ impl Call<'_> {
             Action::Check { .. }
             | Action::Init { .. }
             | Action::Migrate { .. }
-            | Action::Holdings { .. }
-            | Action::Gains { .. }
-            | Action::Journal { .. }
-            | Action::Dump { .. }
+            | Action::Report { .. }
             | Action::Restore(_)
             | Action::Verify { .. } => None,
         }

@@ -1,10 +1,12 @@
-//! What a book says of commands that were refused: the lookups, each of a connection or of an open transaction.
+//! What a book says of commands that were refused: the lookups, each in the book of a connection or of an open transaction.
 
 ghost use Rattle.std.specs.Prelude.{◌≡◌};
-ghost use Rattle.lot_call.specs.Looks.{Looks};
+ghost use Rattle.lot_call.specs.Looks.{IsLookedAt, Looks};
 
-use lot_base::{Account, Commodity, Label, NameFault};
-use lot_explain::{BookReader, Entry, Latest, Lot};
+use lot_base::{Account, Commodity, Label};
+use lot_book::Pair;
+use lot_command::Key;
+use lot_explain::{Entry, Known, Latest, Lot, Wanted};
 use lot_rows::account::{self, AccountRow};
 use lot_rows::entry::{self, EntryRow};
 use lot_rows::head::{self, HeadRow};
@@ -12,63 +14,108 @@ use lot_rows::leg::{self, LegRow};
 use lot_rows::lot::{self, LotRow};
 use lot_rows::plain::{self, PlainRow};
 use lot_table::{Cell, Fault, Queryable, find, select};
-use std::alloc::{AllocError, Global};
+use std::alloc::Global;
 
-/// The book that a connection or an open transaction shows.
-#[derive(Drop)]
-pub(crate) struct Facts<'a, D> {
-    pub(crate) alloc: Global,
-    pub(crate) db: &'a mut D,
+/// Looks up in a book the facts that are wanted of it. Where it can't be read fewer are found; where memory ends that is noted.
+pub(crate) fn look_up<D: Queryable>(alloc: Global, db: &mut D, wanted: &[Wanted], known: &mut Known)
+    ensures same_reference { D.reference db.new ≡ D.reference db.old }
+    ensures looked { IsLookedAt (D.shown db.old) (D.shown db.new) }
+{
+    'facts: for fact in wanted {
+        look_for(alloc, db, fact, known);
+    }
 }
 
-impl<D: Queryable> BookReader for Facts<'_, D> {
-    fn entry(&mut self, source: &str, name: &str) -> Result<Option<Entry>, AllocError> {
-        let (source, name) = (label(self.alloc, source)?, label(self.alloc, name)?);
-        match (source, name) {
-            (Some(source), Some(name)) => readable(find_entry(self.alloc, self.db, &source, &name)),
-            _ => Ok(None),
+/// Looks up one fact, unless it was found already.
+fn look_for<D: Queryable>(alloc: Global, db: &mut D, wanted: &Wanted, known: &mut Known)
+    ensures same_reference { D.reference db.new ≡ D.reference db.old }
+    ensures looked { IsLookedAt (D.shown db.old) (D.shown db.new) }
+{
+    if known.has(wanted) {
+        return;
+    }
+    let found = find_fact(alloc, db, wanted, known);
+    note_end(known, found);
+}
+
+/// Notes that memory ended, where that is why a fact wasn't found. Any other reason says nothing of the other facts.
+pub(crate) fn note_end(known: &mut Known, found: Result<(), Fault>) {
+    if let Err(Fault::Memory) = found {
+        known.cut();
+    }
+}
+
+/// Looks up one fact.
+fn find_fact<D: Queryable>(
+    alloc: Global,
+    db: &mut D,
+    wanted: &Wanted,
+    known: &mut Known,
+) -> Result<(), Fault>
+    ensures same_reference { D.reference db.new ≡ D.reference db.old }
+    ensures looks { Looks (D.shown db.old) (D.shown db.new) result }
+{
+    match wanted {
+        Wanted::Entry(key) => {
+            let entry = find_entry(alloc, db, &key.source, &key.name)?;
+            add_entry(known, key, entry)
+        }
+        Wanted::Accounts => {
+            let accounts = list_accounts(alloc, db)?;
+            known.add_accounts(accounts);
+            Ok(())
+        }
+        Wanted::Latest(pair) => {
+            let latest = find_latest(alloc, db, &pair.account, &pair.commodity)?;
+            add_latest(known, pair, latest)
+        }
+        Wanted::Lots(pair) => {
+            let lots = list_lots(alloc, db, &pair.account, &pair.commodity)?;
+            add_lots(known, pair, lots)
+        }
+        Wanted::Locked(account) => {
+            let held = find_locked(alloc, db, account)?;
+            add_locked(known, account, held)
         }
     }
-
-    fn accounts(&mut self) -> Result<Vec<Account>, AllocError> {
-        let found = list_accounts(self.alloc, self.db);
-        Ok(readable(found.map(Some))?.unwrap_or(Vec::new(self.alloc)))
-    }
-
-    fn latest(
-        &mut self,
-        account: &Account,
-        commodity: &Commodity,
-    ) -> Result<Option<Latest>, AllocError> {
-        readable(find_latest(self.alloc, self.db, account, commodity))
-    }
-
-    fn lots(&mut self, account: &Account, commodity: &Commodity) -> Result<Vec<Lot>, AllocError> {
-        let found = list_lots(self.alloc, self.db, account, commodity);
-        Ok(readable(found.map(Some))?.unwrap_or(Vec::new(self.alloc)))
-    }
-
-    fn locked(&mut self, account: &Account) -> Result<Option<Commodity>, AllocError> {
-        readable(find_locked(self.alloc, self.db, account))
-    }
 }
 
-/// Returns what was found, or nothing where the book can't be read. The only error is out of memory.
-fn readable<T: Drop>(found: Result<Option<T>, Fault>) -> Result<Option<T>, AllocError> {
-    match found {
-        Ok(found) => Ok(found),
-        Err(Fault::Memory) => Err(AllocError),
-        Err(Fault::Device | Fault::Damaged) => Ok(None),
+/// Adds the entry under a key, if there is one. The only error is out of memory.
+pub(crate) fn add_entry(known: &mut Known, key: &Key, entry: Option<Entry>) -> Result<(), Fault> {
+    if let Some(entry) = entry {
+        known.add_entry(key, entry)?;
     }
+    Ok(())
 }
 
-/// Returns a text as a label, if it is one. The only error is out of memory.
-fn label(alloc: Global, text: &str) -> Result<Option<Label>, AllocError> {
-    match Label::new(alloc, text) {
-        Ok(label) => Ok(Some(label)),
-        Err(NameFault::Memory) => Err(AllocError),
-        Err(_) => Ok(None),
+/// Adds where a pair was last posted to with braces, if it was. The only error is out of memory.
+pub(crate) fn add_latest(
+    known: &mut Known,
+    pair: &Pair,
+    latest: Option<Latest>,
+) -> Result<(), Fault> {
+    if let Some(latest) = latest {
+        known.add_latest(pair, latest)?;
     }
+    Ok(())
+}
+
+/// Adds the lots of a pair. The only error is out of memory.
+pub(crate) fn add_lots(known: &mut Known, pair: &Pair, lots: Vec<Lot>) -> Result<(), Fault> {
+    known.add_lots(pair, lots)?;
+    Ok(())
+}
+
+/// Adds a commodity that a closed account holds, if it holds one. The only error is out of memory.
+pub(crate) fn add_locked(
+    known: &mut Known,
+    account: &Account,
+    held: Option<Commodity>,
+) -> Result<(), Fault> {
+    if let Some(commodity) = held {
+        known.add_locked(account, commodity)?;
+    }
+    Ok(())
 }
 
 /// Returns the entry of a source and a name, if there is one.

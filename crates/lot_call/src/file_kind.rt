@@ -1,9 +1,14 @@
 //! What stands in the place of the book that a call is on.
 
+ghost use Rattle.lot_call.specs.Looks.{IsLookedAt};
+ghost use Rattle.lot_table.specs.Statement.{IsSelect};
+ghost use Rattle.sqlite.specs.Held.{state};
+
 use lot_explain::{LongOption, is_shown};
 use lot_files::is_missing;
 use lot_rows::book;
-use sqlite::{Alter, Connection, Error};
+use lot_table::{Fault, Queryable};
+use sqlite::{Alter, Connection};
 
 /// What stands in the place of the book that a call is on, where its action can't begin with it.
 #[derive(Clone, Copy)]
@@ -22,7 +27,9 @@ impl FileKind {
         rt: &HostRuntime,
         path: &str,
         conn: &mut Connection<S>,
-    ) -> Option<FileKind> {
+    ) -> Option<FileKind>
+        ensures { IsLookedAt (state S.Store conn.old) (state S.Store conn.new) }
+    {
         if is_missing(rt, path) {
             return Some(FileKind::Nothing);
         }
@@ -34,7 +41,9 @@ impl FileKind {
     }
 
     /// Returns what a database is that isn't empty. It is `None` where it can't be read.
-    pub fn of_database<S: Alter>(conn: &mut Connection<S>) -> Option<FileKind> {
+    pub fn of_database<S: Alter>(conn: &mut Connection<S>) -> Option<FileKind>
+        ensures { IsLookedAt (state S.Store conn.old) (state S.Store conn.new) }
+    {
         Some(if finds(conn, book::MARKED)? {
             FileKind::Book
         } else {
@@ -73,11 +82,15 @@ impl FileKind {
     }
 }
 
-/// Returns whether a query finds a row, where the database can be read.
-fn finds<S: Alter>(conn: &mut Connection<S>, query: &str) -> Option<bool> {
-    match conn.query_row(query, &[]) {
-        Ok(_) => Some(true),
-        Err(Error::SqliteFailure(_)) => None,
-        Err(_) => Some(false),
+/// Returns whether a query finds a row, where the database can be read. It finds none where the database refuses it, as one without
+/// the table does.
+fn finds<S: Alter>(conn: &mut Connection<S>, query: &str) -> Option<bool>
+    requires { IsSelect query.now }
+    ensures { IsLookedAt (state S.Store conn.old) (state S.Store conn.new) }
+{
+    match conn.ask(query, &[]) {
+        Ok(rows) => Some(!rows.is_empty()),
+        Err(Fault::Damaged) => Some(false),
+        Err(Fault::Device | Fault::Memory) => None,
     }
 }

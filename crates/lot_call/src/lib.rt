@@ -2,7 +2,7 @@
 //! its answer.
 //!
 //! - `arguments`: what they ask for, and what is said of those that can't be used.
-//! - `access`: what a call opens; `call`: what the program is called for; `status`: how a call ends.
+//! - `call`: what the program is called for; `status`: how a call ends.
 //! - `told`: why commands were refused, and what the codes mean; `facts`: what the book says of it, and `remembered`: what it
 //!   said of commands that aren't kept.
 //! - `notes`: what else is said of a call; `fate`: what became of one that keeps all or none; `remains`: what remains of one whose
@@ -14,7 +14,6 @@
 //!   `figures` and `signs`.
 #![tactic(auto)]
 
-mod access;
 mod arguments;
 mod call;
 mod crumbs;
@@ -36,8 +35,7 @@ mod taken;
 mod told;
 mod watched;
 
-pub use access::{access_of, path_of};
-pub use arguments::understand;
+pub use arguments::{say_words_fault, warn, words};
 pub use call::{Call, rounding_of};
 pub use crumbs::Crumbs;
 pub use export::{say_aside, say_export_fault};

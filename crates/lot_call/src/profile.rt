@@ -1,6 +1,7 @@
 //! The profile of an import, as the program reads it.
 
-ghost use Rattle.std.specs.Prelude.{IfErr, IfOk};
+ghost use Rattle.std.specs.Prelude.{◌≡◌, ◌⊎◌, ℕ, List, IfErr, IfOk};
+ghost use Rattle.lot_host.specs.Answers.{stopped, unusable};
 ghost use Rattle.lot_call.specs.Loaded.{IsLoadFault, IsLoaded};
 
 use crate::status::out_of_memory;
@@ -32,7 +33,10 @@ pub enum LoadFault {
 
 /// Reads the profile in the file of that path. Where that has none, standard error says why, and it returns the status of the
 /// program.
-pub fn load(rt: &HostRuntime, path: &str) -> Result<Loaded, u8> {
+pub fn load(rt: &HostRuntime, path: &str) -> Result<Loaded, u8>
+    ensures loaded { IfOk result (λ loaded. (text : List ℕ) × IsLoaded text loaded) }
+    ensures fault { IfErr result (λ status. (status ≡ unusable) ⊎ (status ≡ stopped)) }
+{
     let text = match fs::read_to_string(rt, path) {
         Ok(text) => text,
         Err(error) if error.kind() == ErrorKind::OutOfMemory => return Err(out_of_memory(rt)),
@@ -67,7 +71,9 @@ pub fn loaded_from(alloc: Global, text: &str) -> Result<Loaded, LoadFault>
 }
 
 /// Says why a text is no profile, and returns the status of the program.
-fn refuse_text(rt: &HostRuntime, path: &str, fault: &ProfileFault) -> u8 {
+fn refuse_text(rt: &HostRuntime, path: &str, fault: &ProfileFault) -> u8
+    ensures { (result ≡ unusable) ⊎ (result ≡ stopped) }
+{
     if let ProfileFault::NoToml(line) = fault {
         return refuse(
             rt,
@@ -85,7 +91,9 @@ fn refuse_text(rt: &HostRuntime, path: &str, fault: &ProfileFault) -> u8 {
 }
 
 /// Says why a file has no profile, and returns the status of the program.
-fn refuse<D: fmt::Display>(rt: &HostRuntime, path: &str, why: &D) -> u8 {
+fn refuse<D: fmt::Display>(rt: &HostRuntime, path: &str, why: &D) -> u8
+    ensures { result ≡ unusable }
+{
     let _ = eprintln!(rt; "fault U2 BadValue --profile\nlotbook: {path}: {why}");
     UNUSABLE
 }

@@ -1,19 +1,22 @@
 //! What the codes mean, and why the commands of a call were refused.
 
-ghost use Rattle.std.specs.Prelude.{◌≡◌};
+ghost use Rattle.std.specs.Prelude.{◌≡◌, option_copied};
+ghost use Rattle.lot_host.specs.Answers.{IsTold, unusable};
 ghost use Rattle.lot_call.specs.Except.{except_of};
+ghost use Rattle.lot_call.specs.Looks.{IsLookedAt};
+ghost use Rattle.sqlite.specs.Held.{state};
 
 use crate::call::{Call, rounding_of};
 use crate::crumbs::Crumbs;
 use crate::exported::Exported;
-use crate::facts::Facts;
+use crate::facts::look_up;
 use crate::remains::say_cut_short;
 use crate::remembered::Remembered;
 use lot_args::Action;
 use lot_base::Label;
 use lot_command::Key;
-use lot_explain::{ExportRows, Source, list, nearest_code, notes};
-use lot_output::{Heard, Output, Record};
+use lot_explain::{Explanation, ExportRows, Source, Transcript, list, nearest_code};
+use lot_output::{Heard, Meter, Output, Pace, Record};
 use lot_profile_text::{NOTES, SECTIONS, explain_profile};
 use lot_rounding::Asked;
 use lot_stream::{DONE, STOPPED, UNUSABLE};
@@ -23,8 +26,11 @@ use std::collections::BTreeMap;
 use std::io::{self, Write};
 
 /// Tells what a code means, or what all do, or what a profile may say, and returns the status.
-pub fn tell(rt: &HostRuntime, code: Option<&str>) -> u8 {
-    let mut output = Output::new(rt, None);
+pub fn tell(rt: &HostRuntime, code: Option<&str>) -> u8
+    ensures { IsTold (option_copied code.entry) result }
+{
+    let replies = Meter::of_replies(rt, None);
+    let mut output = Output::new(rt.alloc(), rt.stdout(), Pace::Buffered, replies);
     let told = match code {
         None => list(&mut output).and(Ok(true)),
         Some("profile") => tell_profile(rt, &mut output).and(Ok(true)),
@@ -42,14 +48,16 @@ pub fn tell(rt: &HostRuntime, code: Option<&str>) -> u8 {
 }
 
 /// Writes all that a profile may say.
-fn tell_profile(rt: &HostRuntime, output: &mut Output<'_>) -> io::Result<()> {
+fn tell_profile<W: Write>(rt: &HostRuntime, output: &mut W) -> io::Result<()> {
     let text = explain_profile(rt.alloc(), &SECTIONS, &NOTES)?;
     output.write_all(text.as_bytes())?;
     output.flush()
 }
 
 /// Says of a word that it is no code, and which is nearest to it.
-fn unknown(rt: &HostRuntime, word: &str) -> u8 {
+fn unknown(rt: &HostRuntime, word: &str) -> u8
+    ensures { result ≡ unusable }
+{
     let _ = match nearest_code(rt.alloc(), word) {
         Ok(nearest) => eprintln!(rt;
             "lotbook: there is no code '{word}'; the nearest is {nearest}: lotbook explain {nearest}"
@@ -61,7 +69,7 @@ fn unknown(rt: &HostRuntime, word: &str) -> u8 {
 
 /// Says on standard error why commands were refused, what a fault means, which rows were left out, and what was perhaps read
 /// otherwise than it was meant. What is said of commands that aren't kept is by the book that they had made, else by the book as
-/// it is. Where memory ends or that can't be written, less is said.
+/// it is, which is looked at alone. Where memory ends or that can't be written, less is said.
 pub fn explain<'a, S: Alter>(
     call: &'a Call<'a>,
     read: &'a Record,
@@ -69,7 +77,9 @@ pub fn explain<'a, S: Alter>(
     crumbs: &'a Crumbs,
     remembered: &mut Remembered,
     conn: &mut Connection<S>,
-) {
+)
+    ensures { IsLookedAt (state S.Store conn.old) (state S.Store conn.new) }
+{
     let (Some(input), Some(lines)) = (&read.bytes, &heard.lines.bytes) else {
         return;
     };
@@ -90,7 +100,7 @@ pub fn explain<'a, S: Alter>(
         None => &[],
     };
     let (source, from) = source_of(call.action, &rows, commands);
-    let asked = lot_explain::Transcript {
+    let transcript = Transcript {
         source,
         input: input.as_slice(),
         from,
@@ -101,13 +111,30 @@ pub fn explain<'a, S: Alter>(
         rounding: rounding_of(call.action),
         findings: &crumbs.findings,
     };
-    let mut errors = call.rt.stderr();
-    let _ = if remembered.is_dropped {
-        notes(alloc, &mut errors, remembered, &asked, most)
-    } else {
-        let mut facts = Facts { alloc, db: conn };
-        notes(alloc, &mut errors, &mut facts, &asked, most)
+    write_explanation(call.rt, &transcript, most, remembered, conn);
+}
+
+/// Writes on standard error what there is to say of what a call read and said, as much as is wanted.
+fn write_explanation<'a, S: Alter>(
+    rt: &HostRuntime,
+    transcript: &'a Transcript<'a>,
+    most: u64,
+    remembered: &mut Remembered,
+    conn: &mut Connection<S>,
+)
+    ensures { IsLookedAt (state S.Store conn.old) (state S.Store conn.new) }
+{
+    let alloc = rt.alloc();
+    let Ok(explanation) = Explanation::of(alloc, transcript) else {
+        return;
     };
+    if !remembered.is_dropped {
+        let Ok(wanted) = explanation.wanted(alloc) else {
+            return;
+        };
+        look_up(alloc, conn, &wanted, &mut remembered.known);
+    }
+    let _ = explanation.write(alloc, &mut rt.stderr(), &remembered.known, most);
 }
 
 /// Returns the rows of an export, none where there is none. The only error is out of memory.
@@ -156,10 +183,7 @@ fn source_of<'a>(
         Action::Check { .. }
         | Action::Init { .. }
         | Action::Migrate { .. }
-        | Action::Holdings { .. }
-        | Action::Gains { .. }
-        | Action::Journal { .. }
-        | Action::Dump { .. }
+        | Action::Report { .. }
         | Action::Verify { .. } => (Source::Text { batch: "check" }, 1),
     }
 }

@@ -9,10 +9,10 @@ use Rattle.lot_rounding.specs.declared.rounding.Rounding.{Rounding}
 use Rattle.lot_stored.specs.StandFor.{Stands}
 use Rattle.lot_io.specs.Writes.{IsFlushed, WriteCalls, WritesMade}
 use Rattle.lot_args.specs.declared.action.Format.TheVariants.{Text}
+use Rattle.lot_args.specs.declared.action.Report.TheVariants.{Holdings}
 use Rattle.lot_cli.specs.Check.{RunsCheck, ShowsBehind, status_behind}
-use Rattle.lot_cli.specs.Reports.{ShowsBook}
+use Rattle.lot_cli.specs.Reports.{ShowsBook, written_for}
 use Rattle.lot_cli.specs.Runs.{status_of_run}
-use Rattle.lot_cli.specs.declared.report.Report.TheVariants.{Holdings}
 use Rattle.lot_store.specs.Run.{IsWrittenOut, LeavesAfter}
 use Rattle.lot_store.specs.Turned.{RunsTurned}
 use Rattle.lot_store.specs.declared.book.Condition.{Condition}
@@ -24,7 +24,7 @@ use Rattle.lot_store.specs.declared.run.RunEnd.{RunEnd}
 
 -- behind the replies to all commands the holdings are those of the book
 pub shows_behind : (ending : Ending) → ending ≡ Complete → (old new : State) (before written : Option (List ℕ)) (calls : WritesMade) (posted shown status : ℕ)
-    → ShowsBook (Holdings None Text) old new before written calls shown → status ≡ status_behind posted shown
+    → ShowsBook (written_for (Holdings None Text)) old new before written calls shown → status ≡ status_behind posted shown
     → HasCleanDisk new → (entries : List Entry) → Stands old entries → ShowsBehind ending entries before written calls posted status
 shows_behind ending complete old new before written calls posted shown status book is clean entries stands =
     subst (λ (e : Ending). ShowsBehind e entries before written calls posted status) (sym complete) (

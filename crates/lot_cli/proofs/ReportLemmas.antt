@@ -8,7 +8,7 @@ use Rattle.sqlite.specs.Store.{Ghosts}
 use Rattle.lot_book.specs.Facts.{Entry}
 use Rattle.lot_page.specs.Cursor.{Stays}
 use Rattle.lot_rows.specs.Tables.{Has, Tables}
-use Rattle.lot_cli.specs.Reports.{Concludes, Reports, ShowsAllRows, ShowsBook, ShowsDigest, ShowsReport, ShowsSome, digest_text, verified_line}
+use Rattle.lot_cli.specs.Reports.{Concludes, Reports, ShowsBook, ShowsDigest, Writing, digest_text, verified_line}
 use Rattle.lot_io.specs.Writes.{HasFailed, WriteCalls, WritesMade}
 use Rattle.lot_report.specs.Report.{report_fault}
 use Rattle.lot_report.specs.Written.{AppendsPrefix, WritesLine}
@@ -17,7 +17,6 @@ use Rattle.lot_report.specs.declared.line.PrintFault.{PrintFault}
 use Rattle.lot_report.specs.declared.line.PrintFault.TheVariants as print
 use Rattle.lot_cli.specs.Says.{Halts, Told}
 use Rattle.lot_cli.specs.declared.halt.Halt.TheVariants as halt
-use Rattle.lot_cli.specs.declared.report.Report.{Report}
 use Rattle.lot_book_report.specs.Fault.{HasCause, is_of_writer}
 use Rattle.lot_book_report.specs.Dump.{HoldsOfPlacedBook, digest_line}
 use Rattle.lot_book_report.specs.Show.{HoldsOfBook, HoldsOfTables, IsOfBook, ReadsBook, UnlessStopped}
@@ -46,10 +45,10 @@ pub placed : {S : Type 0} (g : Ghosts S) (old new : Book S g) (Fact : List Entry
 placed g old new Fact it = record { holds = λ clean entries stands. it.holds clean entries stands }
 
 -- a report of a book that was only looked at before is one of the book as it was
-pub shows_after : (report : Report) (old mid new : State) (before written : Option (List ℕ)) (calls : WritesMade) (status : ℕ)
-    → (HasCleanDisk mid → Stays old mid) → Survives old mid (λ _. ⊥) → ShowsBook report mid new before written calls status
-    → ShowsBook report old new before written calls status
-shows_after report old mid new before written calls status same look shows =
+pub shows_after : (writing : Writing) (old mid new : State) (before written : Option (List ℕ)) (calls : WritesMade) (status : ℕ)
+    → (HasCleanDisk mid → Stays old mid) → Survives old mid (λ _. ⊥) → ShowsBook writing mid new before written calls status
+    → ShowsBook writing old new before written calls status
+shows_after writing old mid new before written calls status same look shows =
     let read = shows.read in
     let still : HasCleanDisk new → Stays old mid = λ clean. same (early mid new read.crash clean) in
     record {
@@ -75,26 +74,26 @@ shows_after report old mid new before written calls status same look shows =
     }
 
 -- a report of the book that was taken up
-pub reported : (report : Report) (old mid new : State) (before written : Option (List ℕ)) (calls : WritesMade) (told : Told)
+pub reported : (writing : Writing) (old mid new : State) (before written : Option (List ℕ)) (calls : WritesMade) (told : Told)
     → (HasCleanDisk mid → IsTaken old) → (HasCleanDisk mid → IsUnchanged old mid) → Survives old mid (λ _. ⊥)
-    → ShowsBook report mid new before written calls told.status → told.halt ≡ None → Reports report old new before written calls told
-reported report old mid new before written calls told found same look shows none =
+    → ShowsBook writing mid new before written calls told.status → told.halt ≡ None → Reports writing old new before written calls told
+reported writing old mid new before written calls told found same look shows none =
     inl (
       λ clean. found (early mid new shows.read.crash clean),
-      shows_after report old mid new before written calls told.status (λ clean. unchanged_stays old mid (same clean)) look shows,
+      shows_after writing old mid new before written calls told.status (λ clean. unchanged_stays old mid (same clean)) look shows,
       none,
     )
 
 -- a report of a book that can be used
-pub shows_book : {S : Type 0} (g : Ghosts S) (report : Report) (book later : Book S g) (shown : Result (Unit {0}) ShowFault)
+pub shows_book : {S : Type 0} (g : Ghosts S) (writing : Writing) (book later : Book S g) (shown : Result (Unit {0}) ShowFault)
     (before mid written : Option (List ℕ)) (first between last : Option WriteCalls) (status : ℕ) → book.condition ≡ Ready
     → ReadsBook g book later shown
-    → HoldsOfPlacedBook g book later (λ place entries. ShowsReport report place entries before mid shown)
-    → ShowsSome report before mid shown
-    → HoldsOfTables g book later (λ tables. ShowsAllRows report tables before mid shown)
+    → HoldsOfPlacedBook g book later (λ place entries. writing.of_book place entries before mid shown)
+    → writing.some before mid shown
+    → HoldsOfTables g book later (λ tables. writing.rows tables before mid shown)
     → HasCause shown (record { before = first; after = between }) → Concludes shown mid written (record { before = between; after = last }) status
-    → ShowsBook report (state g book.conn) (state g later.conn) before written (record { before = first; after = last }) status
-shows_book g report book later shown before mid written first between last status ready reads shows some rows cause concludes = record {
+    → ShowsBook writing (state g book.conn) (state g later.conn) before written (record { before = first; after = last }) status
+shows_book g writing book later shown before mid written first between last status ready reads shows some rows cause concludes = record {
   shown = shown;
   mid = mid;
   between = between;
@@ -135,10 +134,10 @@ failed_writer (AtWalk fault) calls none is = absurd (true≢false (sym is))
 failed_writer (AtRow fault) calls cause is = cause is
 
 -- the book isn't taken up
-pub report_refused : (report : Report) (old new : State) (before written : Option (List ℕ)) (calls : WritesMade) (fault : AdoptFault) (told : Told)
+pub report_refused : (writing : Writing) (old new : State) (before written : Option (List ℕ)) (calls : WritesMade) (fault : AdoptFault) (told : Told)
     → (HasCleanDisk new → TellsOf old new (Err fault))
     → (HasCleanDisk new → fault ≢ adopt.Device → (tables : Tables) → Has old tables → TellsBook tables.book (Err fault)) → (HasCleanDisk new → IsHandedBack old new)
     → (HasCleanDisk new → IsUndone old new) → Survives old new (λ _. ⊥) → Halts (halt.Adopt fault) before written calls told
-    → Reports report old new before written calls told
-report_refused report old new before written calls fault told tells book back undone crash said =
+    → Reports writing old new before written calls told
+report_refused writing old new before written calls fault told tells book back undone crash said =
     inr (fault, record { tells = tells; told = book; handed_back = back; undone = undone; crash = crash }, said)

@@ -10,11 +10,10 @@ use Rattle.lot_rows.specs.Tables.{Has, Tables}
 use Rattle.lot_stored.specs.StandFor.{Stands}
 use Rattle.lot_io.specs.Writes.{WritesMade}
 use Rattle.lot_cli.proofs.ReportLemmas.{shows_after}
-use Rattle.lot_cli.specs.Reports.{ShowsBook, verified_line}
+use Rattle.lot_cli.specs.Reports.{ShowsBook, digest_writing, verified_line}
 use Rattle.lot_cli.specs.Says.{Halts, Succeeds, Told}
 use Rattle.lot_cli.specs.Serve.{SaysVerified}
 use Rattle.lot_cli.specs.declared.halt.Halt.TheVariants as halt
-use Rattle.lot_cli.specs.declared.report.Report.TheVariants as report
 use Rattle.lot_store.specs.Create.{IsHandedBack, IsTaken}
 use Rattle.lot_verify.specs.Verify.{NotVerified}
 use Rattle.lot_verify.specs.declared.fault.VerifyFault.{VerifyFault}
@@ -38,12 +37,12 @@ module _ (old new : State) (before written : Option (List ℕ)) (calls : WritesM
 pub verifies_digest : (old mid new : State) (before written : Option (List ℕ)) (calls : WritesMade) (told : Told)
     → (HasCleanDisk mid → (tables : Tables) → Has old tables → (entries : List Entry) × Stands old entries)
     → (HasCleanDisk mid → IsTaken old) → (HasCleanDisk mid → Stays old mid) → Survives old mid (λ _. ⊥)
-    → ShowsBook report.Digest mid new before written calls told.status → told.halt ≡ None
+    → ShowsBook digest_writing mid new before written calls told.status → told.halt ≡ None
     → SaysVerified Digest old new before written calls told
 verifies_digest old mid new before written calls told stands taken same crash shows none =
     let calm : HasCleanDisk new → HasCleanDisk mid = early mid new shows.read.crash in
     inl (
       record { stands = λ clean. stands (calm clean); taken = λ clean. taken (calm clean) },
-      shows_after report.Digest old mid new before written calls told.status same crash shows,
+      shows_after digest_writing old mid new before written calls told.status same crash shows,
       none,
     )

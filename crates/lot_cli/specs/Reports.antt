@@ -1,5 +1,5 @@
 -- A report of the book that is there: what is written, and what is left (docs/RULES.md, The program).
-use Rattle.std.specs.Prelude.{◌≡◌, ◌≢◌, ◌⊎◌, ℕ, Bool, true, false, List, [], ◌++◌, None, OnOk, Option, Result, Ok, Err, codes}
+use Rattle.std.specs.Prelude.{◌≡◌, ◌≢◌, ◌⊎◌, ℕ, ℤ, Bool, true, false, List, [], ◌++◌, None, OnOk, Option, Result, Ok, Err, codes}
 use Rattle.std.specs.Io.KnownBytes.{Appends, Keeps}
 use Rattle.sqlite.specs.State.{HasCleanDisk, State, Survives}
 use Rattle.lot_book.specs.Facts.{Entry}
@@ -16,13 +16,17 @@ use Rattle.lot_store.specs.Create.{IsTaken}
 use Rattle.lot_cli.specs.Says.{Halts, Says, Told}
 use Rattle.lot_cli.specs.declared.halt.Halt.TheVariants as halt
 use Rattle.lot_args.specs.declared.action.Format.TheVariants.{Csv, Text}
-use Rattle.lot_cli.specs.declared.report.Report.{Report}
-use Rattle.lot_cli.specs.declared.report.Report.TheVariants.{Holdings, Gains, Journal, Dump, Digest}
+use Rattle.lot_args.specs.declared.action.Report.{Report}
+use Rattle.lot_args.specs.declared.action.Report.TheVariants.{Holdings, Gains, GainsBy, Journal, Dump}
 use Rattle.lot_book_report.specs.Csv.{ShowsAllHoldingsCsv, ShowsAllSalesCsv, ShowsGainsCsv, ShowsHoldingsCsv, ShowsSomeGainsCsv, ShowsSomeHoldingsCsv}
 use Rattle.lot_book_report.specs.Dump.{ShowsDump, ShowsDumpOfTables, ShowsSomeDump, digest_line, digest_of}
 use Rattle.lot_book_report.specs.declared.digest.BookDigest.{BookDigest}
 use Rattle.lot_book_report.specs.Fault.{HasCause, fault_name, is_of_writer}
 use Rattle.lot_book_report.specs.Gains.{ShowsAllSales, ShowsGains, ShowsSomeGains}
+use Rattle.lot_sums.specs.GainsBy.{ShowsAllSalesBy, ShowsGainsBy, ShowsSomeGainsBy}
+use Rattle.lot_tally.specs.declared.key.TableForm.{TableForm}
+use Rattle.lot_tally.specs.declared.key.TableForm.TheVariants as form
+use Rattle.lot_args.specs.declared.action.Format.{Format}
 use Rattle.lot_book_report.specs.Holdings.{ShowsAllHoldings, ShowsHoldings, ShowsSomeHoldings}
 use Rattle.lot_book_report.specs.Journal.{ShowsAllEntries, ShowsJournal, ShowsSomeJournal}
 use Rattle.lot_book_report.specs.Show.{UnlessStopped}
@@ -39,6 +43,7 @@ use Rattle.lot_store.specs.declared.fault.AdoptFault.{AdoptFault}
 use Rattle.lot_store.specs.declared.fault.StoreFault.TheVariants.{Damaged, Device, InDoubt, NeedsReopen}
 use Rattle.lot_store.specs.declared.walk.WalkFault.TheVariants.{Ended, Failed}
 use Rattle.lot_table.specs.Statement.{DiskFailed}
+use Rattle.lot_walk.specs.Gains.{Range}
 
 -- ---- the end of a report
 
@@ -105,55 +110,99 @@ ShowsDigestOfTables tables start now result =
 
 -- ---- a report
 
--- How much of a report of a book with these entries and that place of migration is written. The report is of what it holds, with
--- what its lots are worth on a day; of what its sales gained from the first to the last day, both included; or of its entries, as
--- a journal, as a dump, or by the digest of that. The first two are as text or as CSV. The dump and its digest alone say the place.
+-- the form of a table in that format
+abbrev pub form_of : Format → TableForm
+form_of Text = form.Text
+form_of Csv = form.Csv
+
+-- what is written for a book: of the book with these entries and that place of migration; of some rows, whatever the tables are;
+-- and of all rows of the tables, where no fault ends it
+pub record Writing : Type 1 where
+  pub of_book : ℕ → List Entry → Option (List ℕ) → Option (List ℕ) → Result (Unit {0}) ShowFault → Type 0
+  pub some : Option (List ℕ) → Option (List ℕ) → Result (Unit {0}) ShowFault → Type 0
+  pub rows : Tables → Option (List ℕ) → Option (List ℕ) → Result (Unit {0}) ShowFault → Type 0
+
+-- What is written of what a book with these entries holds, with what its lots are worth on a day, in a format; whatever the tables
+-- are, of some holdings; and, where no fault ends it, of all rows of the tables.
+abbrev pub ShowsHoldingsAs : Format → Option ℤ → List Entry → Option (List ℕ) → Option (List ℕ) → Result (Unit {0}) ShowFault → Type 0
+ShowsHoldingsAs Text day entries = ShowsHoldings entries day
+ShowsHoldingsAs Csv day entries = ShowsHoldingsCsv entries day
+
+abbrev pub ShowsSomeHoldingsAs : Format → Option ℤ → Option (List ℕ) → Option (List ℕ) → Result (Unit {0}) ShowFault → Type 0
+ShowsSomeHoldingsAs Text day = ShowsSomeHoldings
+ShowsSomeHoldingsAs Csv day = ShowsSomeHoldingsCsv day
+
+abbrev pub ShowsAllHoldingsAs : Format → Option ℤ → Tables → Option (List ℕ) → Option (List ℕ) → Result (Unit {0}) ShowFault → Type 0
+ShowsAllHoldingsAs Text day tables = ShowsAllHoldings tables day
+ShowsAllHoldingsAs Csv day tables = ShowsAllHoldingsCsv tables day
+
+-- the same of what its sales gained from the first to the last day, both included
+abbrev pub ShowsGainsAs : Format → Range → List Entry → Option (List ℕ) → Option (List ℕ) → Result (Unit {0}) ShowFault → Type 0
+ShowsGainsAs Text range entries = ShowsGains entries range
+ShowsGainsAs Csv range entries = ShowsGainsCsv entries range
+
+abbrev pub ShowsSomeGainsAs : Format → Option (List ℕ) → Option (List ℕ) → Result (Unit {0}) ShowFault → Type 0
+ShowsSomeGainsAs Text = ShowsSomeGains
+ShowsSomeGainsAs Csv = ShowsSomeGainsCsv
+
+abbrev pub ShowsAllGainsAs : Format → Range → Tables → Option (List ℕ) → Option (List ℕ) → Result (Unit {0}) ShowFault → Type 0
+ShowsAllGainsAs Text range tables = ShowsAllSales tables range
+ShowsAllGainsAs Csv range tables = ShowsAllSalesCsv tables range
+
+-- How much of a report of a book with these entries and that place of migration is written. The report is of what it holds, of what
+-- its sales gained, or of the sums of that by keys; or of its entries, as a journal or as a dump. The dump alone says the place.
 abbrev pub ShowsReport : Report → ℕ → List Entry → Option (List ℕ) → Option (List ℕ) → Result (Unit {0}) ShowFault → Type 0
-ShowsReport (Holdings day Text) place entries = ShowsHoldings entries day
-ShowsReport (Holdings day Csv) place entries = ShowsHoldingsCsv entries day
-ShowsReport (Gains first last Text) place entries = ShowsGains entries (first, last)
-ShowsReport (Gains first last Csv) place entries = ShowsGainsCsv entries (first, last)
+ShowsReport (Holdings day format) place entries = ShowsHoldingsAs format day entries
+ShowsReport (Gains first last format) place entries = ShowsGainsAs format (first, last) entries
+ShowsReport (GainsBy first last by format) place entries = ShowsGainsBy by.items (form_of format) entries (first, last)
 ShowsReport Journal place entries = ShowsJournal (entry_rows 1 entries)
 ShowsReport Dump place entries = ShowsDump (extent_of place entries) (entry_rows 1 entries)
-ShowsReport Digest place entries = ShowsDigest (digest_of (extent_of place entries) (entry_rows 1 entries))
 
 -- whatever the tables are, the report of some rows is written, or as much of it as its fault leaves
 abbrev pub ShowsSome : Report → Option (List ℕ) → Option (List ℕ) → Result (Unit {0}) ShowFault → Type 0
-ShowsSome (Holdings day Text) = ShowsSomeHoldings
-ShowsSome (Holdings day Csv) = ShowsSomeHoldingsCsv day
-ShowsSome (Gains first last Text) = ShowsSomeGains
-ShowsSome (Gains first last Csv) = ShowsSomeGainsCsv
+ShowsSome (Holdings day format) = ShowsSomeHoldingsAs format day
+ShowsSome (Gains first last format) = ShowsSomeGainsAs format
+ShowsSome (GainsBy first last by format) = ShowsSomeGainsBy by.items (form_of format)
 ShowsSome Journal = ShowsSomeJournal
 ShowsSome Dump = ShowsSomeDump
-ShowsSome Digest = ShowsSomeDigest
 
 -- Where no fault ends it, the report is that of all rows of its tables, whatever these stand for. The rows are those of plain
 -- units and of lots, of the sales on the days of the range, or of the entries.
 abbrev pub ShowsAllRows : Report → Tables → Option (List ℕ) → Option (List ℕ) → Result (Unit {0}) ShowFault → Type 0
-ShowsAllRows (Holdings day Text) tables = ShowsAllHoldings tables day
-ShowsAllRows (Holdings day Csv) tables = ShowsAllHoldingsCsv tables day
-ShowsAllRows (Gains first last Text) tables = ShowsAllSales tables (first, last)
-ShowsAllRows (Gains first last Csv) tables = ShowsAllSalesCsv tables (first, last)
+ShowsAllRows (Holdings day format) tables = ShowsAllHoldingsAs format day tables
+ShowsAllRows (Gains first last format) tables = ShowsAllGainsAs format (first, last) tables
+ShowsAllRows (GainsBy first last by format) tables = ShowsAllSalesBy by.items (form_of format) tables (first, last)
 ShowsAllRows Journal tables = ShowsAllEntries tables
 ShowsAllRows Dump tables = ShowsDumpOfTables tables
-ShowsAllRows Digest tables = ShowsDigestOfTables tables
+
+-- what is written for a report
+abbrev pub written_for : Report → Writing
+written_for report = record { of_book = ShowsReport report; some = ShowsSome report; rows = ShowsAllRows report }
+
+-- what is written beside that a book is verified: the digest of its dump, which says the place of migration
+abbrev pub digest_writing : Writing
+digest_writing = record {
+  of_book = λ place entries. ShowsDigest (digest_of (extent_of place entries) (entry_rows 1 entries));
+  some = ShowsSomeDigest;
+  rows = ShowsDigestOfTables;
+}
 
 -- a report of a book is written, as far as its fault lets it, and concluded with that status
-pub record ShowsBook (report : Report) (old new : State) (before written : Option (List ℕ)) (calls : WritesMade) (status : ℕ) : Type 0 where
+pub record ShowsBook (writing : Writing) (old new : State) (before written : Option (List ℕ)) (calls : WritesMade) (status : ℕ) : Type 0 where
   pub shown : Result (Unit {0}) ShowFault
   pub mid : Option (List ℕ)
   pub between : Option WriteCalls
   pub read : IsRead old new shown
   pub of_book : HasCleanDisk new → (entries : List Entry) (stands : Stands old entries)
-      → ShowsReport report stands.stand.place entries before mid shown
-  pub some : ShowsSome report before mid shown
-  pub rows : HasCleanDisk new → (tables : Tables) → Has old tables → ShowsAllRows report tables before mid shown
+      → writing.of_book stands.stand.place entries before mid shown
+  pub some : writing.some before mid shown
+  pub rows : HasCleanDisk new → (tables : Tables) → Has old tables → writing.rows tables before mid shown
   pub cause : HasCause shown (record { before = calls.before; after = between })
   pub concludes : Concludes shown mid written (record { before = between; after = calls.after }) status
 
 -- a report of the book that is there is written; or the database isn't taken up
-abbrev pub Reports : Report → State → State → Option (List ℕ) → Option (List ℕ) → WritesMade → Told
+abbrev pub Reports : Writing → State → State → Option (List ℕ) → Option (List ℕ) → WritesMade → Told
     → Type 0
-Reports report old new before written calls told =
-    ((HasCleanDisk new → IsTaken old) × ShowsBook report old new before written calls told.status × (told.halt ≡ None))
+Reports writing old new before written calls told =
+    ((HasCleanDisk new → IsTaken old) × ShowsBook writing old new before written calls told.status × (told.halt ≡ None))
     ⊎ ((fault : AdoptFault) × IsLeft old new fault × Halts (halt.Adopt fault) before written calls told)

@@ -12,12 +12,11 @@ use Rattle.lot_io.specs.Writes.{WritesMade}
 use Rattle.lot_report.specs.Printed.{line}
 use Rattle.lot_cli.specs.Check.{Checks}
 use Rattle.lot_cli.specs.Init.{Makes}
-use Rattle.lot_cli.specs.Reports.{Reports, ShowsBook, verified_line}
+use Rattle.lot_cli.specs.Reports.{Reports, ShowsBook, digest_writing, verified_line, written_for}
 use Rattle.lot_cli.specs.Restore.{RestoresBook, terms_for}
 use Rattle.lot_cli.specs.Runs.{Imports, ImportsBy, IsUntouched, Posts, PostsRow, unfit}
 use Rattle.lot_cli.specs.Says.{Halts, Succeeds, Told}
 use Rattle.lot_cli.specs.declared.halt.Halt.TheVariants as halt
-use Rattle.lot_cli.specs.declared.report.Report.TheVariants as report
 use Rattle.lot_store.specs.Create.{IsHandedBack, IsTaken}
 use Rattle.lot_page.specs.Cursor.{Stays}
 use Rattle.lot_rows.specs.Tables.{Has, Tables}
@@ -28,7 +27,7 @@ use Rattle.lot_args.specs.declared.action.Action.{Action}
 use Rattle.lot_args.specs.declared.action.Saying.{Saying}
 use Rattle.lot_args.specs.declared.action.Saying.TheVariants.{Digest, Verified}
 use Rattle.lot_input.specs.Input.{Reading}
-use Rattle.lot_args.specs.declared.action.Action.TheVariants.{Check, Init, Migrate, Post, PostRow, Import, ImportBy, Holdings, Gains, Journal, Dump, Restore, Verify}
+use Rattle.lot_args.specs.declared.action.Action.TheVariants.{Check, Init, Migrate, Post, PostRow, Import, ImportBy, Report, Restore, Verify}
 use Rattle.std.specs.Io.KnownBytes.{Appends}
 
 -- ---- taking over a book of edition 1
@@ -88,7 +87,7 @@ abbrev pub SaysOfVerified : Saying → State → State → Option (List ℕ) →
 SaysOfVerified Verified old new before written calls told =
     IsVerified old new × Succeeds verified_line before written calls told
 SaysOfVerified Digest old new before written calls told =
-    WasVerified old new × ShowsBook report.Digest old new before written calls told.status × (told.halt ≡ None)
+    WasVerified old new × ShowsBook digest_writing old new before written calls told.status × (told.halt ≡ None)
 
 abbrev pub SaysVerified : Saying → State → State → Option (List ℕ) → Option (List ℕ) → WritesMade → Told
     → Type 0
@@ -108,10 +107,7 @@ ReadsNothing (Post asked) = ⊥
 ReadsNothing (PostRow book batch reference rounding) = ⊥
 ReadsNothing (Import asked) = ⊥
 ReadsNothing (ImportBy asked) = ⊥
-ReadsNothing (Holdings book day format) = ⊤
-ReadsNothing (Gains book first last format) = ⊤
-ReadsNothing (Journal book) = ⊤
-ReadsNothing (Dump book) = ⊤
+ReadsNothing (Report book report) = ⊤
 ReadsNothing (Restore asked) = ⊥
 ReadsNothing (Verify book saying) = ⊤
 
@@ -124,10 +120,7 @@ EndsWith (Migrate book) status = IsStatus status
 EndsWith (Post asked) status = IsStatus status
 EndsWith (Import asked) status = IsStatus status
 EndsWith (ImportBy asked) status = IsStatus status
-EndsWith (Holdings book day format) status = IsStatus status
-EndsWith (Gains book first last format) status = IsStatus status
-EndsWith (Journal book) status = IsStatus status
-EndsWith (Dump book) status = IsStatus status
+EndsWith (Report book report) status = IsStatus status
 EndsWith (Restore asked) status = IsStatus status
 EndsWith (Verify book saying) status = IsStatus status
 
@@ -158,9 +151,6 @@ Serves (Import asked) c =
     Imports asked.batch asked.accounts asked.rounding asked.from asked.except.items asked.keeping c.input c.old c.new c.before c.written c.calls c.told
 Serves (ImportBy asked) c =
     ImportsBy asked.batch asked.profile asked.rounding asked.except.items asked.keeping c.input c.old c.new c.before c.written c.calls c.told
-Serves (Holdings book day format) c = Reports (report.Holdings day format) c.old c.new c.before c.written c.calls c.told
-Serves (Gains book first last format) c = Reports (report.Gains first last format) c.old c.new c.before c.written c.calls c.told
-Serves (Journal book) c = Reports report.Journal c.old c.new c.before c.written c.calls c.told
-Serves (Dump book) c = Reports report.Dump c.old c.new c.before c.written c.calls c.told
+Serves (Report book report) c = Reports (written_for report) c.old c.new c.before c.written c.calls c.told
 Serves (Restore asked) c = RestoresBook (terms_for asked) c.input c.old c.new c.before c.written c.calls c.told
 Serves (Verify book saying) c = SaysVerified saying c.old c.new c.before c.written c.calls c.told

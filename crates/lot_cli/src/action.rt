@@ -15,7 +15,7 @@ use crate::halt::Halt;
 use crate::import::{import, import_by};
 use crate::migration::migrate;
 use crate::post::{post, post_row};
-use crate::report::{Report, write_report};
+use crate::report::write_report;
 use crate::restoration::restore;
 use crate::run::{halted, tell};
 use crate::verification::verify;
@@ -127,28 +127,7 @@ pub fn serve<R: CountedRead, W: CountedWrite, P: Progress + Watch + Look + Aside
         }
         Action::Import(asked) => import(alloc, asked, reader, writer, progress, conn),
         Action::ImportBy(asked) => import_by(alloc, asked, reader, writer, progress, conn),
-        Action::Holdings { day, format, .. } => {
-            let asked = Report::Holdings {
-                day: *day,
-                format: *format,
-            };
-            write_report(alloc, asked, writer, conn)
-        }
-        Action::Gains {
-            first,
-            last,
-            format,
-            ..
-        } => {
-            let asked = Report::Gains {
-                first: *first,
-                last: *last,
-                format: *format,
-            };
-            write_report(alloc, asked, writer, conn)
-        }
-        Action::Journal { .. } => write_report(alloc, Report::Journal, writer, conn),
-        Action::Dump { .. } => write_report(alloc, Report::Dump, writer, conn),
+        Action::Report { report, .. } => write_report(alloc, report, writer, conn),
         Action::Restore(asked) => restore(alloc, asked, reader, writer, conn),
         Action::Verify { saying, .. } => verify(alloc, *saying, writer, conn),
     }

@@ -5,10 +5,8 @@ ghost use Rattle.lot_stream.specs.Status.{IsStatus, code_of};
 ghost use Rattle.lot_args.specs.declared.action.Format.TheVariants.{Text};
 ghost use Rattle.lot_book.specs.Facts.{Entry};
 ghost use Rattle.lot_cli.specs.Check.{Checks, ChecksMade, ShowsBehind, check_batch, status_behind};
-ghost use Rattle.lot_cli.specs.Reports.{ShowsBook};
 ghost use Rattle.lot_cli.specs.Runs.{status_of_run};
 ghost use Rattle.lot_store.specs.declared.run.Ending.TheVariants.{Complete};
-ghost use Rattle.lot_cli.specs.declared.report.Report.TheVariants as report;
 ghost use Rattle.lot_input.specs.Input.{Gives, GivesNone, reading_between};
 ghost use Rattle.lot_input.specs.Text.{IsFaultyText, TextMeans};
 ghost use Rattle.lot_store.specs.declared.book.Condition.TheVariants.{Ready};
@@ -20,9 +18,9 @@ ghost use Rattle.lot_io.specs.Writes.{writes_between};
 
 use crate::action::Served;
 use crate::halt::Halt;
-use crate::report::{Report, write_whole};
+use crate::report::write_whole;
 use crate::run::{halted, say_halt, status_of_run};
-use lot_args::{Batch, Format};
+use lot_args::{Batch, Format, Report};
 use lot_completion::Watch;
 use lot_import::Numbered;
 use lot_input::{InputFault, keyed_text};
@@ -145,7 +143,7 @@ fn show_behind<W: CountedWrite, S: Alter>(
                 day: None,
                 format: Format::Text,
             };
-            status_behind(status, write_whole(alloc, report, book, writer))
+            status_behind(status, write_whole(alloc, &report, book, writer))
         }
         Ending::Stopped(_) => status,
         Ending::Output => status,

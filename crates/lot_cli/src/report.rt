@@ -3,12 +3,13 @@ ghost use Rattle.std.specs.Prelude.{◌≡◌, None, Option, false};
 ghost use Rattle.lot_io.specs.Writes.{WriteCalls, writes_between};
 ghost use Rattle.lot_stream.specs.Status.{IsStatus};
 ghost use Rattle.lot_stream.specs.declared.status.Status.TheVariants.{Stopped};
-ghost use Rattle.lot_cli.specs.Reports.{Concludes, Reports, ShowsReport, ShowsAllRows, ShowsSome, report_line};
-ghost use Rattle.lot_cli.specs.Reports.{ShowsBook, ShowsDigest, ShowsDigestOfTables, ShowsSomeDigest};
+ghost use Rattle.lot_cli.specs.Reports.{Concludes, Reports, ShowsReport, ShowsAllRows, ShowsSome, form_of, report_line};
+ghost use Rattle.lot_cli.specs.Reports.{ShowsAllGainsAs, ShowsAllHoldingsAs, ShowsGainsAs, ShowsHoldingsAs, ShowsSomeGainsAs, ShowsSomeHoldingsAs};
+ghost use Rattle.lot_cli.specs.Reports.{ShowsBook, ShowsDigest, ShowsDigestOfTables, ShowsSomeDigest, digest_writing, written_for};
 ghost use Rattle.lot_cli.specs.Says.{Says, told};
 ghost use Rattle.lot_book_report.specs.Dump.{HoldsOfPlacedBook, digest_of};
 ghost use Rattle.lot_book_report.specs.Fault.{HasCause};
-ghost use Rattle.lot_book_report.specs.Show.{HoldsOfTables, ReadsBook};
+ghost use Rattle.lot_book_report.specs.Show.{HoldsOfBook, HoldsOfTables, ReadsBook};
 ghost use Rattle.lot_store.specs.Extent.{extent_of};
 ghost use Rattle.lot_store.specs.declared.book.Condition.TheVariants.{Ready};
 ghost use Rattle.lot_stored.specs.Rows.{entry_rows};
@@ -18,7 +19,7 @@ ghost use Rattle.sqlite.specs.State.{HasCleanDisk};
 use crate::action::Served;
 use crate::halt::Halt;
 use crate::run::{halted, tell};
-use lot_args::Format;
+use lot_args::{Format, Report};
 use lot_base::Day;
 use lot_book_report::{
     ShowFault, digest_book, show_dump, show_gains, show_gains_csv, show_holdings,
@@ -28,41 +29,22 @@ use lot_io::CountedWrite;
 use lot_report::print_texts;
 use lot_store::{Book, HandedBack, adopt};
 use lot_stream::Status;
+use lot_sums::show_gains_by;
+use lot_tally::TableForm;
 use sqlite::{Alter, Connection};
 use std::alloc::Global;
-
-/// A report of a book.
-#[derive(Clone, Copy)]
-pub(crate) enum Report {
-    /// What it holds. With a day, also what its lots are worth on it.
-    Holdings {
-        day: Option<Day>,
-        format: Format,
-    },
-    /// What its sales gained from the first day to the last, both included. Without a day that end of the range is open.
-    Gains {
-        first: Option<Day>,
-        last: Option<Day>,
-        format: Format,
-    },
-    /// Its entries.
-    Journal,
-    /// Its entries, between two lines by which the book can be made again.
-    Dump,
-    /// That it is verified, and what the last line of its dump says.
-    Digest,
-}
 
 /// Writes a report of the book that is there.
 pub(crate) fn write_report<W: CountedWrite, S: Alter>(
     alloc: Global,
-    report: Report,
+    report: &Report,
     writer: &mut W,
     conn: Connection<S>,
 ) -> Served<S>
     requires outside { conn.in_transaction ≡ false }
     requires unlimited { conn.step_limit ≡ None }
-    ensures reports { Reports report (state S.Store conn) (state S.Store result.conn)
+    ensures reports { Reports (written_for report.now)
+        (state S.Store conn) (state S.Store result.conn)
         (W.contents writer.old) (W.contents writer.new)
         (writes_between (W.calls writer.old) (W.calls writer.new))
         (told result.status result.halt) }
@@ -79,12 +61,13 @@ pub(crate) fn write_report<W: CountedWrite, S: Alter>(
 /// Writes a report of a book that can be used.
 pub(crate) fn write_report_of<W: CountedWrite, S: Alter>(
     alloc: Global,
-    report: Report,
+    report: &Report,
     writer: &mut W,
     book: Book<S>,
 ) -> Served<S>
     requires ready { book.condition ≡ Ready }
-    ensures shows { ShowsBook report (state S.Store book.conn) (state S.Store result.conn)
+    ensures shows { ShowsBook (written_for report.now)
+        (state S.Store book.conn) (state S.Store result.conn)
         (W.contents writer.old) (W.contents writer.new)
         (writes_between (W.calls writer.old) (W.calls writer.new)) result.status }
     ensures goes_on { result.halt ≡ None }
@@ -104,12 +87,13 @@ pub(crate) fn write_report_of<W: CountedWrite, S: Alter>(
 /// Writes a report of a book that can be used, with what stands behind it, and returns the status of the program.
 pub(crate) fn write_whole<W: CountedWrite, S: Alter>(
     alloc: Global,
-    report: Report,
+    report: &Report,
     book: &mut Book<S>,
     writer: &mut W,
 ) -> u8
     requires ready { book.old.condition ≡ Ready }
-    ensures shows { ShowsBook report (state S.Store book.old.conn) (state S.Store book.new.conn)
+    ensures shows { ShowsBook (written_for report.now)
+        (state S.Store book.old.conn) (state S.Store book.new.conn)
         (W.contents writer.old) (W.contents writer.new)
         (writes_between (W.calls writer.old) (W.calls writer.new)) result }
     ensures status { IsStatus result }
@@ -121,41 +105,115 @@ pub(crate) fn write_whole<W: CountedWrite, S: Alter>(
 /// Writes a report of a book, as far as its fault lets it. Nothing is flushed.
 fn show<W: CountedWrite, S: Alter>(
     alloc: Global,
-    report: Report,
+    report: &Report,
     book: &mut Book<S>,
     writer: &mut W,
 ) -> Result<(), ShowFault>
     ensures shows { HoldsOfPlacedBook S.Store book.old book.new (λ place entries.
-        ShowsReport report place entries (W.contents writer.old) (W.contents writer.new) result) }
-    ensures some { ShowsSome report (W.contents writer.old) (W.contents writer.new) result }
+        ShowsReport report.now place entries (W.contents writer.old) (W.contents writer.new) result) }
+    ensures some { ShowsSome report.now (W.contents writer.old) (W.contents writer.new) result }
     ensures rows { HoldsOfTables S.Store book.old book.new
         (λ tables.
-        ShowsAllRows report tables (W.contents writer.old) (W.contents writer.new) result) }
+        ShowsAllRows report.now tables (W.contents writer.old) (W.contents writer.new) result) }
     ensures reads { ReadsBook S.Store book.old book.new result }
     ensures cause { HasCause result (writes_between (W.calls writer.old) (W.calls writer.new)) }
 {
     match report {
-        Report::Holdings {
-            day,
-            format: Format::Text,
-        } => show_holdings(alloc, book, day, writer),
-        Report::Holdings {
-            day,
-            format: Format::Csv,
-        } => show_holdings_csv(alloc, book, day, writer),
+        Report::Holdings { day, format } => holdings(alloc, *day, *format, book, writer),
         Report::Gains {
             first,
             last,
-            format: Format::Text,
-        } => show_gains(alloc, book, first, last, writer),
-        Report::Gains {
+            format,
+        } => gains(alloc, *first, *last, *format, book, writer),
+        Report::GainsBy {
             first,
             last,
-            format: Format::Csv,
-        } => show_gains_csv(alloc, book, first, last, writer),
+            by,
+            format,
+        } => show_gains_by(alloc, book, *first, *last, by, form_of(*format), writer),
         Report::Journal => show_journal(book, writer),
         Report::Dump => show_dump(book, writer),
-        Report::Digest => show_digest(book, writer),
+    }
+}
+
+/// Writes what a book holds, in that format.
+fn holdings<W: CountedWrite, S: Alter>(
+    alloc: Global,
+    day: Option<Day>,
+    format: Format,
+    book: &mut Book<S>,
+    writer: &mut W,
+) -> Result<(), ShowFault>
+    ensures shows { HoldsOfBook S.Store book.old book.new (λ entries.
+        ShowsHoldingsAs format day entries
+        (W.contents writer.old) (W.contents writer.new) result) }
+    ensures some { ShowsSomeHoldingsAs format day
+        (W.contents writer.old) (W.contents writer.new) result }
+    ensures rows { HoldsOfTables S.Store book.old book.new (λ tables.
+        ShowsAllHoldingsAs format day tables
+        (W.contents writer.old) (W.contents writer.new) result) }
+    ensures reads { ReadsBook S.Store book.old book.new result }
+    ensures cause { HasCause result (writes_between (W.calls writer.old) (W.calls writer.new)) }
+{
+    match format {
+        Format::Text => show_holdings(alloc, book, day, writer),
+        Format::Csv => show_holdings_csv(alloc, book, day, writer),
+    }
+}
+
+/// Writes what the sales of a book gained, in that format.
+fn gains<W: CountedWrite, S: Alter>(
+    alloc: Global,
+    first: Option<Day>,
+    last: Option<Day>,
+    format: Format,
+    book: &mut Book<S>,
+    writer: &mut W,
+) -> Result<(), ShowFault>
+    ensures shows { HoldsOfBook S.Store book.old book.new (λ entries.
+        ShowsGainsAs format (first, last) entries
+        (W.contents writer.old) (W.contents writer.new) result) }
+    ensures some { ShowsSomeGainsAs format
+        (W.contents writer.old) (W.contents writer.new) result }
+    ensures rows { HoldsOfTables S.Store book.old book.new (λ tables.
+        ShowsAllGainsAs format (first, last) tables
+        (W.contents writer.old) (W.contents writer.new) result) }
+    ensures reads { ReadsBook S.Store book.old book.new result }
+    ensures cause { HasCause result (writes_between (W.calls writer.old) (W.calls writer.new)) }
+{
+    match format {
+        Format::Text => show_gains(alloc, book, first, last, writer),
+        Format::Csv => show_gains_csv(alloc, book, first, last, writer),
+    }
+}
+
+/// Returns the form of a table in that format.
+fn form_of(format: Format) -> TableForm
+    ensures { result ≡ form_of format }
+{
+    match format {
+        Format::Text => TableForm::Text,
+        Format::Csv => TableForm::Csv,
+    }
+}
+
+/// Writes that a book is verified, with what the last line of its dump says. The book can be used.
+pub(crate) fn write_digest<W: CountedWrite, S: Alter>(writer: &mut W, book: Book<S>) -> Served<S>
+    requires ready { book.condition ≡ Ready }
+    ensures shows { ShowsBook digest_writing (state S.Store book.conn) (state S.Store result.conn)
+        (W.contents writer.old) (W.contents writer.new)
+        (writes_between (W.calls writer.old) (W.calls writer.new)) result.status }
+    ensures goes_on { result.halt ≡ None }
+    ensures outside { HasCleanDisk (state S.Store result.conn)
+        → result.conn.in_transaction ≡ false }
+    ensures status { IsStatus result.status }
+{
+    let mut book = book;
+    let shown = show_digest(&mut book, writer);
+    Served {
+        status: conclude(writer, shown),
+        halt: None,
+        conn: book.into_connection(),
     }
 }
 

@@ -8,7 +8,7 @@ ghost use Rattle.lot_io.specs.Writes.{writes_between};
 
 use crate::action::Served;
 use crate::halt::Halt;
-use crate::report::{Report, write_report_of};
+use crate::report::write_digest;
 use crate::run::{halted, tell};
 use lot_args::Saying;
 use lot_io::CountedWrite;
@@ -47,7 +47,7 @@ pub(crate) fn verify<W: CountedWrite, S: Alter>(
             }
             Saying::Digest => {
                 let book = Book::ready_over(alloc, conn);
-                write_report_of(alloc, Report::Digest, writer, book)
+                write_digest(writer, book)
             }
         },
         Err(HandedBack { fault, conn }) => halted(writer, Halt::Verify(fault), conn),

@@ -32,7 +32,7 @@ each_adds rate units legs = (
 
 -- ---- a price of all units
 
-some_legs : (legs : List (LotKey × ℤ)) (units : ℤ) → AreLegsOf units legs → (first : LotKey × ℤ) × (others : List (LotKey × ℤ)) × (legs ≡ first ∷ others)
+pub some_legs : (legs : List (LotKey × ℤ)) (units : ℤ) → AreLegsOf units legs → (first : LotKey × ℤ) × (others : List (LotKey × ℤ)) × (legs ≡ first ∷ others)
 some_legs [] units are = absurd (are.some (sym are.sum))
 some_legs (first ∷ others) units are = (first, others, refl)
 
@@ -41,6 +41,11 @@ as_many total units first others =
     length-append (parts_of total units (take (length (first ∷ others) - 1) (first ∷ others))) _
     ∙ ap (λ n. n + 1) (length-map (take (length (first ∷ others) - 1) (first ∷ others)) _ ∙ length-take-le (length (first ∷ others) - 1) (first ∷ others) (omega arith))
     ∙ omega arith
+
+pub share_for_each : (total : ℤ) (sale : SaleParts) → AreLegsOf sale.units sale.legs → length (shares_of total sale.units sale.legs) ≡ length sale.legs
+share_for_each total sale are =
+    let (first, others, is) = some_legs sale.legs sale.units are in
+    subst (λ legs. length (shares_of total sale.units legs) ≡ length legs) (sym is) (as_many total sale.units first others)
 
 whole_adds : (total units : ℤ) (legs : List (LotKey × ℤ)) → length (shares_of total units legs) ≡ length legs
     → Adds units (map (λ (shared : (LotKey × ℤ) × ℤ). (shared.0, Some (Share shared.1))) (zip legs (shares_of total units legs)))
@@ -64,10 +69,7 @@ whole_adds total units legs same =
 at_price : (price : Price) (sale : SaleParts) → AreLegsOf sale.units sale.legs
     → Adds sale.units (lots_at price sale) (gain_from (proceeds_at price sale.units sale.legs) (cost_of sale.legs))
 at_price (price.Each each) sale are = each_adds each.rate sale.units sale.legs
-at_price (price.Whole whole) sale are =
-    let (first, others, is) = some_legs sale.legs sale.units are in
-    whole_adds whole.0 sale.units sale.legs
-    (subst (λ legs. length (shares_of whole.0 sale.units legs) ≡ length legs) (sym is) (as_many whole.0 sale.units first others))
+at_price (price.Whole whole) sale are = whole_adds whole.0 sale.units sale.legs (share_for_each whole.0 sale are)
 
 unless_other : (other : Bool) (found gain : Gain) → cond other None (Some found) ≡ Some gain → found ≡ gain
 unless_other true found gain is = cc

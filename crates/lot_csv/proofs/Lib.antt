@@ -1,5 +1,6 @@
 mod FieldLemmas
 mod LawLemmas
+mod LotLemmas
 mod RecordLemmas
 mod ShareLemmas
 mod SumLemmas

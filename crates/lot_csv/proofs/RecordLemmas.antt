@@ -53,17 +53,19 @@ grown front old new fields more was is =
     ∙ ap (λ (text : List ℕ). front ++ text) (sym (flat_map-append (λ (field : List ℕ). 44 ∷ field_text field) fields more))
 
 -- the parts of a record of a sale, one behind another
-pub one_record : (a b c d e f : List ℕ) (entry posting account commodity : List ℕ) (taken cost gain : List (List ℕ))
+pub one_record : (a b c d e f g : List ℕ) (entry posting account commodity : List ℕ) (taken cost gain term : List (List ℕ))
     → a ≡ field_text entry ++ others_text (posting ∷ []) → b ≡ a ++ others_text (account ∷ commodity ∷ []) → c ≡ b ++ others_text taken
-    → d ≡ c ++ others_text cost → e ≡ d ++ others_text gain → f ≡ e ++ 10 ∷ []
-    → f ≡ record_text (entry ∷ posting ∷ account ∷ commodity ∷ (taken ++ (cost ++ gain)))
-one_record a b c d e f entry posting account commodity taken cost gain one two three four five end =
+    → d ≡ c ++ others_text cost → e ≡ d ++ others_text gain → f ≡ e ++ others_text term → g ≡ f ++ 10 ∷ []
+    → g ≡ record_text (entry ∷ posting ∷ account ∷ commodity ∷ (taken ++ (cost ++ (gain ++ term))))
+one_record a b c d e f g entry posting account commodity taken cost gain term one two three four five six end =
     let front = field_text entry in
     let second = grown front a b (posting ∷ []) (account ∷ commodity ∷ []) one two in
     let third = grown front b c (posting ∷ account ∷ commodity ∷ []) taken second three in
     let fourth = grown front c d (posting ∷ account ∷ commodity ∷ taken) cost third four in
     let fifth = grown front d e (posting ∷ account ∷ commodity ∷ (taken ++ cost)) gain fourth five in
+    let sixth = grown front e f (posting ∷ account ∷ commodity ∷ ((taken ++ cost) ++ gain)) term fifth six in
     end
-    ∙ ap (λ (text : List ℕ). text ++ 10 ∷ []) fifth
-    ∙ append_assoc front (others_text (posting ∷ account ∷ commodity ∷ ((taken ++ cost) ++ gain))) (10 ∷ [])
-    ∙ ap (λ (fields : List (List ℕ)). front ++ (others_text (posting ∷ account ∷ commodity ∷ fields) ++ 10 ∷ [])) (append_assoc taken cost gain)
+    ∙ ap (λ (text : List ℕ). text ++ 10 ∷ []) sixth
+    ∙ append_assoc front (others_text (posting ∷ account ∷ commodity ∷ (((taken ++ cost) ++ gain) ++ term))) (10 ∷ [])
+    ∙ ap (λ (fields : List (List ℕ)). front ++ (others_text (posting ∷ account ∷ commodity ∷ fields) ++ 10 ∷ []))
+    (append_assoc (taken ++ cost) gain term ∙ append_assoc taken cost (gain ++ term))

@@ -1,19 +1,12 @@
--- Sums of what lots gain, and the records of lots.
-use Rattle.std.specs.Prelude.{◌≡◌, ◌≢◌, ℕ, Option, Some, Result, Ok, Err, IsErrAnd, ℤ, pos, neg_ℤ, ◌+ℤ◌, ◌-ℤ◌, ◌*ℤ◌, Bool, true, false, cond, List, [], ◌∷◌, ◌++◌, map, zip, ◌⊎◌, int_lt}
-use Rattle.std.proofs.Common.{refl, sym, ap, subst, ◌∙◌, arith, inl, inr}
-use Rattle.std.proofs.KnownBytes.{Appends-nil}
-use Rattle.lot_report.specs.Written.{WritesEach}
-use Rattle.lot_report.specs.declared.line.PrintFault.{PrintFault}
-use Rattle.lot_report.specs.declared.line.PrintFault.TheVariants.{Memory}
-use Rattle.lot_report.proofs.FedLemmas.{lines_of_items}
+-- Sums of what lots gain.
+use Rattle.std.specs.Prelude.{◌≡◌, ℤ, pos, neg_ℤ, ◌+ℤ◌, ◌-ℤ◌, ◌*ℤ◌, Bool, true, false, cond, List, [], ◌∷◌, ◌++◌, map, zip, ◌⊎◌, int_lt}
+use Rattle.std.proofs.Common.{refl, ap, ◌∙◌, arith, inl, inr}
 use Rattle.std.proofs.lemmas.Int.{ints}
 use Rattle.lot_num.specs.Amount.{one}
 use Rattle.lot_num.specs.Sum.{sum_of}
 use Rattle.lot_book.specs.declared.gain.Gain.{Gain}
 use Rattle.lot_book.specs.Gain.{gain_from, with_opposite_sign}
-use Rattle.lot_cost.specs.declared.lot_key.LotKey.{LotKey}
-use Rattle.lot_csv.specs.Shares.{AddUpTo, SoldLot, with_rest}
-use Rattle.lot_csv.specs.declared.shares.LotPrice.TheVariants.{Share}
+use Rattle.lot_csv.specs.Shares.{AddUpTo, with_rest}
 
 -- a map over a map
 pub fused : {X Y Z : Type 0} (f : Y → Z) (v : X → Y) (xs : List X) → map f (map v xs) ≡ map (λ x. f (v x)) xs
@@ -80,30 +73,3 @@ pub none_zipped : {X Y : Type 0} (xs : List X) (ys : List Y) → (xs ≡ []) ⊎
 none_zipped xs ys (inl none) = ap (λ l. zip l ys) none
 none_zipped [] ys (inr none) = refl
 none_zipped (x ∷ xs) ys (inr none) = ap (λ l. zip (x ∷ xs) l) none
-
--- ---- records of lots
-
--- the records of items are those of lots
-pub wrote_lots : {X : Type 0} (record_of : SoldLot → List ℕ) (lot : X → SoldLot) (xs : List X) (lots : List SoldLot) (old new : Option (List ℕ))
-    (result : Result (Unit {0}) PrintFault) → map lot xs ≡ lots → WritesEach (λ x. record_of (lot x)) xs old new result
-    → WritesEach (λ (text : List ℕ). text) (map record_of lots) old new result
-wrote_lots record_of lot xs lots old new result same wrote =
-    subst (λ (ls : List SoldLot). WritesEach (λ (text : List ℕ). text) (map record_of ls) old new result) same
-    (subst (λ (texts : List (List ℕ)). WritesEach (λ (text : List ℕ). text) texts old new result) (sym (fused record_of lot xs))
-    (lines_of_items (λ x. record_of (lot x)) xs old new result wrote))
-
--- out of memory before the first record, of which there is one for each lot
-pub none_wrote : (record_of : SoldLot → List ℕ) (first : SoldLot) (others lots : List SoldLot) (held : Option (List ℕ))
-    (result : Result (Unit {0}) PrintFault) → lots ≡ first ∷ others → IsErrAnd result (λ fault. fault ≡ Memory)
-    → WritesEach (λ (text : List ℕ). text) (map record_of lots) held held result
-none_wrote record_of first others lots held (Ok done) some memory = absurd memory
-none_wrote record_of first others lots held (Err fault) some memory =
-    rw (memory) ([], record_of first, map record_of others, ap (map record_of) some, Appends-nil held)
-
--- a sale at a price of all units has a lot
-pub some_whole : (legs : List (LotKey × ℤ)) (parts : List ℤ) (rest : ℤ) → legs ≢ []
-    → (first : SoldLot) × (others : List SoldLot)
-    × (map (λ (shared : (LotKey × ℤ) × ℤ). (shared.0, Some (Share shared.1))) (zip legs (parts ++ rest ∷ [])) ≡ first ∷ others)
-some_whole [] parts rest some = absurd (some refl)
-some_whole (leg ∷ legs) [] rest some = (_, _, refl)
-some_whole (leg ∷ legs) (part ∷ parts) rest some = (_, _, refl)

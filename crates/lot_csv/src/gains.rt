@@ -1,21 +1,19 @@
-ghost use Rattle.std.specs.Prelude.{◌≡◌, ◌∷◌, ◌++◌, [], Some, decimal, IfOk, IsErrOf, OnOk, ℤ, ◌-ℤ◌, map, zip};
+ghost use Rattle.std.specs.Prelude.{◌≡◌, ◌∷◌, ◌++◌, [], decimal, IfOk, IsErrOf, OnOk, ◌-ℤ◌, zip};
 ghost use Rattle.std.specs.String.{string_bytes};
-ghost use Rattle.lot_cost.specs.declared.lot_key.LotKey.{LotKey as LotKeyOf};
-ghost use Rattle.lot_csv.specs.Gains.{gain_fields, gains_header, lot_record, money_field, sale_records, taken_fields};
+ghost use Rattle.lot_csv.specs.Gains.{gain_fields, gains_header, lot_record, money_field, sale_records, taken_fields, term_fields};
 ghost use Rattle.lot_csv.specs.Record.{field_text, others_text};
-ghost use Rattle.lot_csv.specs.Shares.{gain_in, lots_at};
-ghost use Rattle.lot_csv.specs.declared.shares.LotPrice.TheVariants.{Share};
 ghost use Rattle.lot_io.specs.Writes.{HasFailed, NoneFailed};
 ghost use Rattle.lot_report.specs.Written.{WritesEach, WritesLine};
 
+use crate::lots::lot_gains;
 use crate::record::{push_cost, push_field, push_others};
-use crate::shares::{LotPrice, lot_cost, lot_gain, shares};
+use crate::shares::lot_cost;
 use itoa::Buffer;
 use lot_base::Day;
-use lot_book::{LotKey, Sale};
-use lot_command::Price;
+use lot_book::{Gain, LotKey, Sale};
 use lot_io::CountedWrite;
 use lot_num::{Units, Wide};
+use lot_period::term_of;
 use lot_report::{PrintFault, print_texts};
 use std::alloc::{AllocError, Global};
 
@@ -32,7 +30,7 @@ pub struct Seller {
 pub fn gains_header() -> &'static str
     ensures { result.now ≡ gains_header }
 {
-    "entry,posting,account,commodity,units,acquired,sold,days_held,label,unit_cost,currency,proceeds,cost,gain\n"
+    "entry,posting,account,commodity,units,acquired,sold,days_held,label,unit_cost,currency,proceeds,cost,gain,term\n"
 }
 
 /// Writes the records of a sale: one for each lot, in the order in which the lots were taken.
@@ -50,82 +48,27 @@ pub fn write_sale<W: CountedWrite>(
     ensures cause { IsErrOf result PrintFault.Write → HasFailed (W.calls writer.new) }
     ensures none_failed { OnOk result (NoneFailed (W.calls writer.old) (W.calls writer.new)) }
 {
-    match sale.gain() {
-        Some(_) => match sale.price() {
-            Some(price) => write_priced(alloc, writer, seller, sale, price),
-            None => write_alike(alloc, writer, seller, sale, &None),
-        },
-        None => write_alike(alloc, writer, seller, sale, &None),
-    }
-}
-
-/// Writes the records of a sale at a price, which is in the currency of all its lots.
-fn write_priced<W: CountedWrite>(
-    alloc: Global,
-    writer: &mut W,
-    seller: Seller,
-    sale: &Sale,
-    price: &Price,
-) -> Result<(), PrintFault>
-    ensures records { WritesEach (λ text. text)
-        (map (lot_record seller.entry seller.posting sale.now) (lots_at price.now sale.now))
-        (W.contents writer.old) (W.contents writer.new) result }
-    ensures cause { IsErrOf result PrintFault.Write → HasFailed (W.calls writer.new) }
-    ensures none_failed { OnOk result (NoneFailed (W.calls writer.old) (W.calls writer.new)) }
-{
-    match price {
-        Price::Each(price) => {
-            let each = Some(LotPrice::Each(price.rate));
-            write_alike(alloc, writer, seller, sale, &each)
-        }
-        Price::Whole(price) => {
-            let shares = shares(alloc, price, sale)?;
-            write_shared(alloc, writer, seller, sale, &shares)
-        }
-    }
-}
-
-/// Writes the records of a sale in which each unit of every lot goes for the same price.
-fn write_alike<W: CountedWrite>(
-    alloc: Global,
-    writer: &mut W,
-    seller: Seller,
-    sale: &Sale,
-    price: &Option<LotPrice>,
-) -> Result<(), PrintFault>
-    ensures records { WritesEach
-        (λ (leg : LotKeyOf × ℤ).
-        lot_record seller.entry seller.posting sale.now (leg, price.now))
-        sale.now.legs (W.contents writer.old) (W.contents writer.new) result }
-    ensures cause { IsErrOf result PrintFault.Write → HasFailed (W.calls writer.new) }
-    ensures none_failed { OnOk result (NoneFailed (W.calls writer.old) (W.calls writer.new)) }
-{
     let legs = sale.legs();
-    for leg in legs {
-        write_lot(alloc, writer, seller, sale, leg, price)?;
-    }
-    Ok(())
+    let gains = lot_gains(alloc, sale)?;
+    write_lots(alloc, writer, seller, sale, legs, &gains)
 }
 
-/// Writes the records of a sale whose lots have these shares of its price.
-fn write_shared<W: CountedWrite>(
+/// Writes the records of legs of a sale, each with what its lot gains.
+fn write_lots<W: CountedWrite>(
     alloc: Global,
     writer: &mut W,
     seller: Seller,
     sale: &Sale,
-    shares: &[Units],
+    legs: &[(LotKey, Units)],
+    gains: &[Option<Gain>],
 ) -> Result<(), PrintFault>
-    ensures records { WritesEach
-        (λ (shared : (LotKeyOf × ℤ) × ℤ).
-        lot_record seller.entry seller.posting sale.now (shared.0, Some (Share shared.1)))
-        (zip sale.now.legs shares.now) (W.contents writer.old) (W.contents writer.new) result }
+    ensures records { WritesEach (lot_record seller.entry seller.posting sale.now)
+        (zip legs.now gains.now) (W.contents writer.old) (W.contents writer.new) result }
     ensures cause { IsErrOf result PrintFault.Write → HasFailed (W.calls writer.new) }
     ensures none_failed { OnOk result (NoneFailed (W.calls writer.old) (W.calls writer.new)) }
 {
-    let legs = sale.legs();
-    for (leg, share) in legs.iter().zip(shares) {
-        let price = Some(LotPrice::Share(*share));
-        write_lot(alloc, writer, seller, sale, leg, &price)?;
+    for (leg, gain) in legs.iter().zip(gains) {
+        write_lot(alloc, writer, seller, sale, leg, gain)?;
     }
     Ok(())
 }
@@ -137,14 +80,14 @@ fn write_lot<W: CountedWrite>(
     seller: Seller,
     sale: &Sale,
     leg: &(LotKey, Units),
-    price: &Option<LotPrice>,
+    gain: &Option<Gain>,
 ) -> Result<(), PrintFault>
     ensures line { WritesLine (W.contents writer.old) (W.contents writer.new) result
-        (lot_record seller.entry seller.posting sale.now (leg.now, price.now)) }
+        (lot_record seller.entry seller.posting sale.now (leg.now, gain.now)) }
     ensures cause { IsErrOf result PrintFault.Write → HasFailed (W.calls writer.new) }
     ensures none_failed { OnOk result (NoneFailed (W.calls writer.old) (W.calls writer.new)) }
 {
-    let record = lot_record(alloc, seller, sale, leg, price)?;
+    let record = lot_record(alloc, seller, sale, leg, gain)?;
     print_texts(writer, &[record.as_str()])
 }
 
@@ -154,20 +97,22 @@ fn lot_record(
     seller: Seller,
     sale: &Sale,
     leg: &(LotKey, Units),
-    price: &Option<LotPrice>,
+    gain: &Option<Gain>,
 ) -> Result<String, AllocError>
     ensures { IfOk result (λ text. string_bytes text
-        ≡ lot_record seller.entry seller.posting sale.now (leg.now, price.now)) }
+        ≡ lot_record seller.entry seller.posting sale.now (leg.now, gain.now)) }
 {
+    let day = sale.day();
     let mut text = String::new(alloc);
     push_seller(&mut text, seller)?;
     push_others(
         &mut text,
         &[sale.account().as_str(), sale.commodity().as_str()],
     )?;
-    push_taken(alloc, &mut text, sale.day(), leg)?;
+    push_taken(alloc, &mut text, day, leg)?;
     push_cost(alloc, &mut text, &leg.0)?;
-    push_gain(alloc, &mut text, sale.units(), leg, price)?;
+    push_gain(alloc, &mut text, leg, gain)?;
+    push_term(&mut text, day, leg)?;
     text.push_str("\n")?;
     Ok(text)
 }
@@ -213,28 +158,33 @@ fn days_between(first: Day, last: Day) -> i32
     last.number() - first.number()
 }
 
-/// Appends the proceeds, the cost and the gain of a lot. Without a price only the cost is known.
-/// The only error is out of memory.
+/// Appends the proceeds, the cost and the gain of a lot. Of a lot without a gain only the cost is
+/// known. The only error is out of memory.
 fn push_gain(
     alloc: Global,
     text: &mut String,
-    units: Units,
     leg: &(LotKey, Units),
-    price: &Option<LotPrice>,
+    gain: &Option<Gain>,
 ) -> Result<(), AllocError>
     ensures { OnOk result (string_bytes text.new
-        ≡ string_bytes text.old
-        ++ others_text (gain_fields leg.now (gain_in units (leg.now, price.now)))) }
+        ≡ string_bytes text.old ++ others_text (gain_fields leg.now gain.now)) }
 {
-    let Some(price) = price else {
+    let Some(gain) = gain else {
         push_money(alloc, text, None)?;
         push_money(alloc, text, Some(lot_cost(leg)))?;
         return push_money(alloc, text, None);
     };
-    let gain = lot_gain(units, leg, price);
     push_money(alloc, text, Some(gain.proceeds))?;
-    push_money(alloc, text, Some(gain.cost))?;
+    push_money(alloc, text, Some(lot_cost(leg)))?;
     push_money(alloc, text, Some(gain.gain))
+}
+
+/// Appends how long a lot was held that was sold on a day. The only error is out of memory.
+fn push_term(text: &mut String, sold: Day, leg: &(LotKey, Units)) -> Result<(), AllocError>
+    ensures { OnOk result (string_bytes text.new
+        ≡ string_bytes text.old ++ others_text (term_fields sold leg.now)) }
+{
+    push_others(text, &[term_of(leg.0.day, sold).as_str()])
 }
 
 /// Appends an amount of money, or an empty field where there is none. The only error is out of

@@ -9,7 +9,7 @@ use lot_cost::LotKey;
 use std::alloc::{AllocError, Global};
 
 /// Appends fields, each behind a comma. The only error is out of memory.
-pub(crate) fn push_others(text: &mut String, fields: &[&str]) -> Result<(), AllocError>
+pub fn push_others(text: &mut String, fields: &[&str]) -> Result<(), AllocError>
     ensures { OnOk result (string_bytes text.new
         ≡ string_bytes text.old ++ others_text (map (λ field. field.now) fields.now)) }
 {
@@ -22,7 +22,7 @@ pub(crate) fn push_others(text: &mut String, fields: &[&str]) -> Result<(), Allo
 
 /// Appends a field, in quotes where it needs them. The only error is out of memory.
 #[tactic(auto, unfolding(crate::specs::Record::field_text))]
-pub(crate) fn push_field(text: &mut String, field: &str) -> Result<(), AllocError>
+pub fn push_field(text: &mut String, field: &str) -> Result<(), AllocError>
     ensures { OnOk result (string_bytes text.new
         ≡ string_bytes text.old ++ field_text field.now) }
 {

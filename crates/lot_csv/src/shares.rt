@@ -102,7 +102,7 @@ fn lot_proceeds(units: Units, taken: Units, price: &LotPrice) -> Wide
 }
 
 /// Returns what the units that were taken of a lot cost.
-pub(crate) fn lot_cost(leg: &(LotKey, Units)) -> Wide
+pub fn lot_cost(leg: &(LotKey, Units)) -> Wide
     ensures value { result ≡ lot_cost leg.now }
     ensures bound { unsigned_abs result ≤ units_limit * rate_limit }
 {

@@ -1,3 +1,4 @@
 pub mod FormLemmas
 mod ShellLemmas
 pub mod SiteLemmas
+pub mod ExplainedLemmas

@@ -4,7 +4,9 @@ pub mod Commas
 pub mod Commodity
 pub mod Crumbs
 pub mod Finding
+pub mod Pair
 pub mod Records
 pub mod Residual
 pub mod Shell
 pub mod Site
+pub mod Explained

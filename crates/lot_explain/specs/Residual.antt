@@ -1,6 +1,7 @@
 -- What the text of a transaction says that its postings leave in a currency (docs/RULES.md, Balance and fill).
-use Rattle.std.specs.Prelude.{ℕ, if◌then◌else◌, List, [], ◌∷◌, Option, None, Some, ℤ, pos, ◌+ℤ◌, ◌*ℤ◌}
+use Rattle.std.specs.Prelude.{ℕ, if◌then◌else◌, List, [], ◌∷◌, Option, None, Some, ℤ, pos, ◌+ℤ◌, ◌*ℤ◌, nat_le, unsigned_abs}
 use Rattle.std.specs.Option.{option_and_then, option_map}
+use Rattle.lot_num.specs.Amount.{greatest_wide}
 use Rattle.lot_base.specs.Text.{same_text}
 use Rattle.lot_cost.specs.declared.cost.Cost.{Cost}
 use Rattle.lot_cost.specs.declared.cost.Cost.TheVariants.{Each, Whole}
@@ -27,16 +28,20 @@ weight_by (Some cost) amount = weight_in_braces amount.units cost
 abbrev pub weight_said : Amount → Option (List ℕ × ℤ)
 weight_said amount = weight_by amount.cost amount
 
--- a sum of weights in a currency, and one weight more
-abbrev pub with_weight : List ℕ → ℤ → List ℕ × ℤ → ℤ
-with_weight currency sum weight = if same_text weight.0 currency then sum +ℤ weight.1 else sum
+-- a sum of weights, where it is in range
+abbrev pub wide_of : ℤ → Option ℤ
+wide_of sum = if nat_le (unsigned_abs sum) greatest_wide then Some sum else None
+
+-- a sum of weights in a currency, and one weight more; nothing where that is out of range
+abbrev pub with_weight : List ℕ → ℤ → List ℕ × ℤ → Option ℤ
+with_weight currency sum weight = if same_text weight.0 currency then wide_of (sum +ℤ weight.1) else Some sum
 
 -- the same with what a posting weighs; one without an amount weighs nothing
 abbrev pub with_posting : List ℕ → ℤ → Option Amount → Option ℤ
 with_posting currency sum None = Some sum
-with_posting currency sum (Some amount) = option_map (with_weight currency sum) (weight_said amount)
+with_posting currency sum (Some amount) = option_and_then (with_weight currency sum) (weight_said amount)
 
--- the same with all postings; nothing where the text of one doesn't say what it weighs
+-- the same with all postings, one after another; nothing where the text of one doesn't say what it weighs, or a sum is out of range
 abbrev pub sum_with : List ℕ → ℤ → List Posting → Option ℤ
 sum_with currency sum [] = Some sum
 sum_with currency sum (posting ∷ postings) =

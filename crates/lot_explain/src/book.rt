@@ -2,11 +2,11 @@
 
 use crate::fact::without_sign;
 use crate::form::is_by_form;
+use crate::known::{Entry, Known, Lot};
 use crate::nearest::nearest;
 use crate::refused::Refused;
 use crate::shown::Shown;
 use crate::transcript::Naming;
-use lot_base::{Account, Commodity, Day};
 use lot_command::canonical::body;
 use lot_command::{Amount, Command, Cost, Posting};
 use lot_cost::LotKey;
@@ -14,65 +14,18 @@ use lot_inv::is_other_sign;
 use lot_num::Units;
 use std::alloc::{AllocError, Global};
 
-/// What a book says behind the last command of a run, whether it is kept or not. A call returns nothing where the book can't be
-/// read. The only error is out of memory.
-pub trait BookReader {
-    /// Returns the entry under a key, given as its source and its name.
-    fn entry(&mut self, source: &str, name: &str) -> Result<Option<Entry>, AllocError>;
-
-    /// Returns the accounts that were opened.
-    fn accounts(&mut self) -> Result<Vec<Account>, AllocError>;
-
-    /// Returns where an account and a commodity were last posted to with braces.
-    fn latest(
-        &mut self,
-        account: &Account,
-        commodity: &Commodity,
-    ) -> Result<Option<Latest>, AllocError>;
-
-    /// Returns the lots of a commodity that an account holds.
-    fn lots(&mut self, account: &Account, commodity: &Commodity) -> Result<Vec<Lot>, AllocError>;
-
-    /// Returns a commodity that an account holds though it was closed, where there is one.
-    fn locked(&mut self, account: &Account) -> Result<Option<Commodity>, AllocError>;
-}
-
-/// An entry of a book.
-#[derive(Drop)]
-pub struct Entry {
-    pub number: u32,
-    /// Its canonical text.
-    pub body: String,
-}
-
-/// A day, and the last entry of that day that posted with braces.
-#[derive(Drop)]
-pub struct Latest {
-    pub day: Day,
-    pub entry: u32,
-}
-
-/// A lot that is held.
-#[derive(Drop)]
-pub struct Lot {
-    pub key: LotKey,
-    pub units: Units,
-}
-
 /// Says which entry stands under the key of a command, and the first line in which they differ. Of the row of a broker file,
 /// which doesn't show its postings, it says both lines.
-pub(crate) fn key_reused<B: BookReader>(
+pub(crate) fn key_reused(
     alloc: Global,
-    book: &mut B,
+    known: &Known,
     refused: &Refused<'_>,
 ) -> Result<String, AllocError> {
-    let (word, batch) = (refused.key.word, refused.key.batch);
-    let source = format!(in alloc; "{word}:{batch}")?;
-    let Some(entry) = book.entry(source.as_str(), refused.key.name)? else {
+    let Some(entry) = known.entry(refused.key.name)? else {
         return Ok(String::new(alloc));
     };
     let sent = body(alloc, refused.command)?;
-    let (number, completes) = (entry.number, completing(alloc, &entry, refused)?);
+    let (number, completes) = (entry.number, completing(alloc, entry, refused)?);
     match first_difference(entry.body.as_str(), sent.as_str()) {
         Difference::Has(line, other) => {
             let line = Shown(line.trim_start().as_bytes());
@@ -144,9 +97,9 @@ fn first_difference<'a>(standing: &'a str, sent: &'a str) -> Difference<'a> {
 
 /// Says which opened account has the name nearest to that of an account that wasn't opened. Without a book the opened
 /// accounts are those that the text opens.
-pub(crate) fn unknown_account<B: BookReader>(
+pub(crate) fn unknown_account(
     alloc: Global,
-    book: &mut B,
+    known: &Known,
     refused: &Refused<'_>,
     posting: Option<&Posting>,
 ) -> Result<String, AllocError> {
@@ -155,9 +108,9 @@ pub(crate) fn unknown_account<B: BookReader>(
         (_, Some(posting)) => &posting.account,
         _ => return Ok(String::new(alloc)),
     };
-    let opened = book.accounts()?;
+    let opened = known.accounts()?;
     let mut names = Vec::new(alloc);
-    for account in &opened {
+    for account in opened {
         names.push(account.as_str())?;
     }
     for command in refused.commands {
@@ -177,15 +130,15 @@ pub(crate) fn unknown_account<B: BookReader>(
 }
 
 /// Says on which day, and by which entry, the pair of a posting was last posted to with braces.
-pub(crate) fn back_dated<B: BookReader>(
+pub(crate) fn back_dated(
     alloc: Global,
-    book: &mut B,
+    known: &Known,
     posting: &Posting,
 ) -> Result<String, AllocError> {
     let Some(amount) = &posting.amount else {
         return Ok(String::new(alloc));
     };
-    let Some(latest) = book.latest(&posting.account, &amount.commodity)? else {
+    let Some(latest) = known.latest(&posting.account, &amount.commodity)? else {
         return Ok(String::new(alloc));
     };
     let (day, entry) = (latest.day.text(alloc)?, latest.entry);
@@ -196,9 +149,9 @@ pub(crate) fn back_dated<B: BookReader>(
 /// Says how many lots the braces of a posting fit, what they hold, and in what they differ. Of a posting that takes more
 /// than they hold it says both amounts. It says nothing where no lot of the commodity is held, or where the lots can't be
 /// read.
-pub(crate) fn fitting<B: BookReader>(
+pub(crate) fn fitting(
     alloc: Global,
-    book: &mut B,
+    known: &Known,
     posting: &Posting,
     code: &str,
 ) -> Result<String, AllocError> {
@@ -213,12 +166,12 @@ pub(crate) fn fitting<B: BookReader>(
     else {
         return Ok(String::new(alloc));
     };
-    let lots = book.lots(&posting.account, commodity)?;
+    let lots = known.lots(&posting.account, commodity)?;
     if lots.is_empty() {
         return Ok(String::new(alloc));
     }
     let (mut keys, mut held) = (Vec::new(alloc), Some(Units::ZERO));
-    for lot in &lots {
+    for lot in lots {
         if fits(lot, *units, cost) {
             held = sum(held, lot.units);
             keys.push(&lot.key)?;

@@ -15,10 +15,20 @@ pub struct Cause {
 
 /// The start of a line on a cause: the code and the name.
 impl fmt::Display for Cause {
+    ghost use Rattle.std.specs.Prelude.{Some};
+    ghost use Rattle.lot_explain.specs.Explained.{cause_start};
+
+    ghost output = { λ cause. Some (cause_start cause) };
+
     fn fmt<W: fmt::Write>(&self, f: &mut fmt::Formatter<W>) -> fmt::Result {
         let name = self.name;
         write!(f, "C2 BadRow {name}")
     }
+}
+
+/// Returns all causes.
+pub(crate) fn causes() -> &'static [Cause] {
+    &CAUSES
 }
 
 /// Those of an export, then those of a broker file alone.

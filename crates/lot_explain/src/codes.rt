@@ -69,6 +69,11 @@ pub(crate) fn tables() -> [&'static [Code]; 9] {
 
 /// The start of a line on a code: the code and its name. For a fault without a code it is the name.
 impl fmt::Display for Code {
+    ghost use Rattle.std.specs.Prelude.{Some};
+    ghost use Rattle.lot_explain.specs.Explained.{code_start};
+
+    ghost output = { λ code. Some (code_start code) };
+
     fn fmt<W: fmt::Write>(&self, f: &mut fmt::Formatter<W>) -> fmt::Result {
         let (code, name) = (self.code, self.name);
         if code == name {

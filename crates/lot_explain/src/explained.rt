@@ -1,10 +1,12 @@
 //! What there is to say of a code.
 
-ghost use Rattle.std.specs.Prelude.{◌≡◌, IfOk, option_copied};
-ghost use Rattle.std.specs.List.{find, list_any};
+ghost use Rattle.std.specs.Prelude.{◌≡◌, IfOk, OnOk, option_copied};
+ghost use Rattle.std.specs.Io.KnownBytes.{Appends};
+ghost use Rattle.std.specs.List.{find, flat_map, list_any};
 ghost use Rattle.lot_explain.specs.Codes.{is_cause, is_named, some_named};
+ghost use Rattle.lot_explain.specs.Explained.{Explains, Lists, both_examples, cause_text, cause_texts_of, code_line, code_text, examples_text, explanation_of, indented, indented_line, lines_among, names_one, text_if_cause, text_if_named, texts_among, texts_of};
 
-use crate::causes::{CAUSES, Cause};
+use crate::causes::{CAUSES, Cause, causes};
 use crate::codes::{Code, Examples, tables};
 use crate::nearest::nearest;
 use crate::shown::Wrapped;
@@ -13,16 +15,34 @@ use std::io::{self, Write};
 
 /// Writes the explanation of each code that a word names, by its code or its name, and of each cause of a faulty row, by its name,
 /// in any letter case. Returns whether it names one. If it names none, nothing is written.
-pub fn explain<W: Write>(writer: &mut W, word: &str) -> io::Result<bool> {
-    let names_code = explain_among(writer, &tables(), word)?;
-    let names_cause = explain_causes(writer, &CAUSES, word)?;
+pub fn explain<W: Write>(writer: &mut W, word: &str) -> io::Result<bool>
+    ensures { IfOk result (Explains word.now (W.contents writer.old) (W.contents writer.new)) }
+{
+    explain_all(writer, &tables(), causes(), word)
+}
+
+/// Does the same with the codes of some tables and with some causes.
+fn explain_all<W: Write>(
+    writer: &mut W,
+    tables: &[&[Code]],
+    causes: &[Cause],
+    word: &str,
+) -> io::Result<bool>
+    ensures flag { IfOk result (λ told. told ≡ names_one word.now tables.now causes.now) }
+    ensures text { OnOk result (Appends (W.contents writer.old) (W.contents writer.new)
+        (explanation_of word.now tables.now causes.now)) }
+{
+    let names_code = explain_among(writer, tables, word)?;
+    let names_cause = explain_causes(writer, causes, word)?;
     writer.flush()?;
     Ok(names_code || names_cause)
 }
 
 /// Does the same with the codes of some tables.
 fn explain_among<W: Write>(writer: &mut W, tables: &[&[Code]], word: &str) -> io::Result<bool>
-    ensures { IfOk result (λ told. told ≡ some_named word.now tables.now) }
+    ensures flag { IfOk result (λ told. told ≡ some_named word.now tables.now) }
+    ensures text { OnOk result (Appends (W.contents writer.old) (W.contents writer.new)
+        (texts_among word.now tables.now)) }
 {
     let mut names_one = false;
     for table in tables {
@@ -35,39 +55,81 @@ fn explain_among<W: Write>(writer: &mut W, tables: &[&[Code]], word: &str) -> io
 
 /// Does the same with the codes of a table.
 fn explain_in<W: Write>(writer: &mut W, table: &[Code], word: &str) -> io::Result<bool>
-    ensures { IfOk result (λ told. told ≡ list_any (is_named word.now) table.now) }
+    ensures flag { IfOk result (λ told. told ≡ list_any (is_named word.now) table.now) }
+    ensures text { OnOk result (Appends (W.contents writer.old) (W.contents writer.new)
+        (texts_of word.now table.now)) }
 {
-    let mut names_one = false;
     for code in table {
-        if code.is_named(word) {
-            names_one = true;
-            write_code(writer, code)?;
-        }
+        explain_code(writer, code, word)?;
     }
-    Ok(names_one)
+    Ok(table.iter().any(|code| code.is_named(word)))
+}
+
+/// Writes the explanation of a code, if a word names it.
+fn explain_code<W: Write>(writer: &mut W, code: &Code, word: &str) -> io::Result<()>
+    ensures { OnOk result (Appends (W.contents writer.old) (W.contents writer.new)
+        (text_if_named word.now code.now)) }
+{
+    if !code.is_named(word) {
+        return Ok(());
+    }
+    write_code(writer, code)?;
+    Ok(())
 }
 
 /// Does the same with some causes.
 fn explain_causes<W: Write>(writer: &mut W, causes: &[Cause], word: &str) -> io::Result<bool>
-    ensures { IfOk result (λ told. told ≡ list_any (is_cause word.now) causes.now) }
+    ensures flag { IfOk result (λ told. told ≡ list_any (is_cause word.now) causes.now) }
+    ensures text { OnOk result (Appends (W.contents writer.old) (W.contents writer.new)
+        (cause_texts_of word.now causes.now)) }
 {
-    let mut names_one = false;
     for cause in causes {
-        if cause.is_named(word) {
-            names_one = true;
-            write_cause(writer, cause)?;
-        }
+        explain_cause(writer, cause, word)?;
     }
-    Ok(names_one)
+    Ok(causes.iter().any(|cause| cause.is_named(word)))
+}
+
+/// Writes the explanation of a cause, if a word names it.
+fn explain_cause<W: Write>(writer: &mut W, cause: &Cause, word: &str) -> io::Result<()>
+    ensures { OnOk result (Appends (W.contents writer.old) (W.contents writer.new)
+        (text_if_cause word.now cause.now)) }
+{
+    if !cause.is_named(word) {
+        return Ok(());
+    }
+    write_cause(writer, cause)?;
+    Ok(())
 }
 
 /// Writes all codes, a line each.
-pub fn list<W: Write>(writer: &mut W) -> io::Result<()> {
-    for code in tables().into_iter().flatten() {
+pub fn list<W: Write>(writer: &mut W) -> io::Result<()>
+    ensures { OnOk result (Lists (W.contents writer.old) (W.contents writer.new)) }
+{
+    list_among(writer, &tables())?;
+    writer.flush()
+}
+
+/// Does the same with the codes of some tables.
+fn list_among<W: Write>(writer: &mut W, tables: &[&[Code]]) -> io::Result<()>
+    ensures { OnOk result (Appends (W.contents writer.old) (W.contents writer.new)
+        (lines_among tables.now)) }
+{
+    for table in tables {
+        list_in(writer, table)?;
+    }
+    Ok(())
+}
+
+/// Does the same with the codes of a table.
+fn list_in<W: Write>(writer: &mut W, table: &[Code]) -> io::Result<()>
+    ensures { OnOk result (Appends (W.contents writer.old) (W.contents writer.new)
+        (flat_map code_line table.now)) }
+{
+    for code in table {
         let brief = code.brief;
         writeln!(writer, "{code}: {brief}")?;
     }
-    writer.flush()
+    Ok(())
 }
 
 /// Returns the first code that a word names.
@@ -129,7 +191,10 @@ impl Cause {
 }
 
 /// Writes what there is to say of a cause.
-fn write_cause<W: Write>(writer: &mut W, cause: &Cause) -> io::Result<()> {
+fn write_cause<W: Write>(writer: &mut W, cause: &Cause) -> io::Result<()>
+    ensures { OnOk result (Appends (W.contents writer.old) (W.contents writer.new)
+        (cause_text cause.now)) }
+{
     let (brief, help) = (cause.brief, Wrapped(cause.help));
     write!(
         writer,
@@ -138,7 +203,10 @@ fn write_cause<W: Write>(writer: &mut W, cause: &Cause) -> io::Result<()> {
 }
 
 /// Writes what there is to say of a code.
-fn write_code<W: Write>(writer: &mut W, code: &Code) -> io::Result<()> {
+fn write_code<W: Write>(writer: &mut W, code: &Code) -> io::Result<()>
+    ensures { OnOk result (Appends (W.contents writer.old) (W.contents writer.new)
+        (code_text code.now)) }
+{
     let (brief, page) = (code.brief, code.page);
     let (rule, help) = (Wrapped(code.rule), Wrapped(code.help));
     write!(writer, "{code}: {brief}\n\n{rule}\n")?;
@@ -147,13 +215,27 @@ fn write_code<W: Write>(writer: &mut W, code: &Code) -> io::Result<()> {
 }
 
 /// Writes what gets a code, and what gets none.
-fn write_examples<W: Write>(writer: &mut W, examples: &Examples) -> io::Result<()> {
-    let (what, refused, accepted) = match examples {
-        Examples::Ledger { refused, accepted } => ("ledger text", refused, accepted),
-        Examples::Rows { refused, accepted } => ("a broker file", refused, accepted),
-        Examples::Calls { refused, accepted } => ("calls", refused, accepted),
-        Examples::Absent => return Ok(()),
-    };
+fn write_examples<W: Write>(writer: &mut W, examples: &Examples) -> io::Result<()>
+    ensures { OnOk result (Appends (W.contents writer.old) (W.contents writer.new)
+        (examples_text examples.now)) }
+{
+    match examples {
+        Examples::Ledger { refused, accepted } => {
+            write_both(writer, "ledger text", refused, accepted)
+        }
+        Examples::Rows { refused, accepted } => {
+            write_both(writer, "a broker file", refused, accepted)
+        }
+        Examples::Calls { refused, accepted } => write_both(writer, "calls", refused, accepted),
+        Examples::Absent => Ok(()),
+    }
+}
+
+/// Does the same with two examples of a kind.
+fn write_both<W: Write>(writer: &mut W, what: &str, refused: &str, accepted: &str) -> io::Result<()>
+    ensures { OnOk result (Appends (W.contents writer.old) (W.contents writer.new)
+        (both_examples what.now refused.now accepted.now)) }
+{
     write!(writer, "Refused, {what}:\n\n")?;
     write_indented(writer, refused)?;
     write!(writer, "Accepted:\n\n")?;
@@ -161,11 +243,23 @@ fn write_examples<W: Write>(writer: &mut W, examples: &Examples) -> io::Result<(
 }
 
 /// Writes the lines of an example, indented by four columns, and an empty line.
-fn write_indented<W: Write>(writer: &mut W, text: &str) -> io::Result<()> {
+fn write_indented<W: Write>(writer: &mut W, text: &str) -> io::Result<()>
+    ensures { OnOk result (Appends (W.contents writer.old) (W.contents writer.new)
+        (indented text.now)) }
+{
     for line in text.split('\n') {
-        if !line.is_empty() {
-            writeln!(writer, "    {line}")?;
-        }
+        write_line(writer, line)?;
     }
     writer.write_all(b"\n")
+}
+
+/// Writes a line of an example, if there is something on it.
+fn write_line<W: Write>(writer: &mut W, line: &str) -> io::Result<()>
+    ensures { OnOk result (Appends (W.contents writer.old) (W.contents writer.new)
+        (indented_line line.now)) }
+{
+    if line.is_empty() {
+        return Ok(());
+    }
+    writeln!(writer, "    {line}")
 }

@@ -6,7 +6,8 @@ ghost use Rattle.lot_import.specs.declared.accounts.Accounts.{Accounts as Accoun
 ghost use Rattle.lot_rounding.specs.Nearest.{most_decimals};
 ghost use Rattle.lot_explain.specs.Crumbs.{postings_in};
 
-use crate::book::{BookReader, back_dated, fitting, key_reused, unknown_account};
+use crate::book::{back_dated, fitting, key_reused, unknown_account};
+use crate::known::Known;
 use crate::refused::{Refused, item};
 use crate::residual::residual;
 use lot_command::{Amount, Command, Cost, Posting};
@@ -23,22 +24,22 @@ const ONE: u128 = 100_000_000;
 
 /// Returns what there is to say of the refusal of a command beside its rule, with a colon before
 /// it. It is empty where there is nothing to say. The only error is out of memory.
-pub(crate) fn fact<B: BookReader>(
+pub(crate) fn fact(
     alloc: Global,
-    book: &mut B,
+    known: &Known,
     refused: &Refused<'_>,
 ) -> Result<String, AllocError> {
     let (said, postings) = (refused.said, postings_of(refused.command));
     match (said.code, posting_of(refused)) {
-        ("L1", _) => key_reused(alloc, book, refused),
-        ("L3", posting) => unknown_account(alloc, book, refused, posting),
+        ("L1", _) => key_reused(alloc, known, refused),
+        ("L3", posting) => unknown_account(alloc, known, refused, posting),
         ("L8", _) => {
             let count = postings.len();
             format!(in alloc; ": there are {count}")
         }
-        ("L10", Some(posting)) => back_dated(alloc, book, posting),
+        ("L10", Some(posting)) => back_dated(alloc, known, posting),
         ("L12" | "L14", _) => left_over(alloc, postings, said.word),
-        ("B2" | "B3", Some(posting)) => fitting(alloc, book, posting, said.code),
+        ("B2" | "B3", Some(posting)) => fitting(alloc, known, posting, said.code),
         ("B4", Some(posting)) => nothing_to_sell(alloc, posting),
         ("B5", Some(posting)) => quotient(alloc, posting),
         _ => Ok(String::new(alloc)),

@@ -4,13 +4,13 @@
 ghost use Rattle.std.specs.Prelude.{◌≡◌, option_map};
 ghost use Rattle.lot_explain.specs.Cause.{cause_behind, is_of_disk};
 
-use crate::book::BookReader;
 use crate::crumbs::crumbs;
 use crate::explained::find;
 use crate::export::{ExportRow, row_at};
 use crate::fact::{cash, fact, named, row_cash};
 use crate::faulty::{faulty_lines, faulty_rows};
 use crate::finding::Finding;
+use crate::known::Known;
 use crate::left_out::is_only;
 use crate::notebook::Notebook;
 use crate::place::InputPlace;
@@ -45,10 +45,10 @@ pub(crate) struct Refused<'a> {
 }
 
 /// Notes each refusal and each fault that a call said.
-pub(crate) fn note_lines<W: Write, B: BookReader>(
+pub(crate) fn note_lines<W: Write>(
     alloc: Global,
     notes: &mut Notebook<'_, W>,
-    book: &mut B,
+    known: &Known,
     transcript: &Transcript<'_>,
     reading: &mut Reading<'_>,
 ) -> io::Result<()> {
@@ -61,7 +61,7 @@ pub(crate) fn note_lines<W: Write, B: BookReader>(
             Some(said) if said.code.starts_with('C') && matches!(reading, Reading::Export { .. }) =>
                 {}
             Some(said) if said.code == "C2" => faulty_rows(alloc, notes, transcript.input)?,
-            Some(said) => note_said(alloc, notes, book, transcript, reading, &said)?,
+            Some(said) => note_said(alloc, notes, known, transcript, reading, &said)?,
             None => {}
         }
     }
@@ -71,10 +71,10 @@ pub(crate) fn note_lines<W: Write, B: BookReader>(
 
 /// Notes what was said of a command or a row, or of the whole input. It leaves out faults of a book
 /// that can't be opened or taken up: the program says more of these.
-fn note_said<W: Write, B: BookReader>(
+fn note_said<W: Write>(
     alloc: Global,
     notes: &mut Notebook<'_, W>,
-    book: &mut B,
+    known: &Known,
     transcript: &Transcript<'_>,
     reading: &mut Reading<'_>,
     said: &Said<'_>,
@@ -101,7 +101,7 @@ fn note_said<W: Write, B: BookReader>(
         }
         Some(number) => {
             let (colon, cause) = cause_behind(said.code, transcript.cause);
-            let fact = known(alloc, book, &*transcript, reading, number, &*said)?;
+            let fact = told_of(alloc, known, &*transcript, reading, number, &*said)?;
             let place = reading.go_to(number, said.posting)?;
             notes.note(place, format_args!("{code}: {brief}{colon}{cause}{fact}"))
         }
@@ -122,9 +122,9 @@ fn cause_behind<'a>(code: &str, cause: Option<&'a str>) -> (&'static str, &'a st
 
 /// Returns what is known of the command or row of that number, with what stands before it, or
 /// nothing. The only error is out of memory.
-fn known<'a, B: BookReader>(
+fn told_of<'a>(
     alloc: Global,
-    book: &mut B,
+    known: &Known,
     transcript: &'a Transcript<'a>,
     reading: &'a Reading<'_>,
     number: usize,
@@ -144,7 +144,7 @@ fn known<'a, B: BookReader>(
                     naming: transcript.naming(),
                     finding: transcript.findings.of(number),
                 };
-                let mut text = fact(alloc, book, &refused)?;
+                let mut text = fact(alloc, known, &refused)?;
                 text.push_str(crumbs(alloc, &refused)?.as_str())?;
                 Ok(text)
             }
@@ -168,7 +168,7 @@ fn known<'a, B: BookReader>(
                         finding: transcript.findings.of(number),
                     };
                     let mut text = named(alloc, &refused)?;
-                    text.push_str(fact(alloc, book, &refused)?.as_str())?;
+                    text.push_str(fact(alloc, known, &refused)?.as_str())?;
                     text.push_str(way_out(alloc, said, row, rows)?.as_str())?;
                     text.push_str(crumbs(alloc, &refused)?.as_str())?;
                     Ok(text)
@@ -179,7 +179,7 @@ fn known<'a, B: BookReader>(
             None => Ok(String::new(alloc)),
         },
         Reading::Export { rows, commands } => match row_at(rows, number) {
-            Some(row) => known_of_export(alloc, book, transcript, number, row, commands, said),
+            Some(row) => told_of_export(alloc, known, transcript, number, row, commands, said),
             None => Ok(String::new(alloc)),
         },
         Reading::Dump => Ok(String::new(alloc)),
@@ -187,9 +187,9 @@ fn known<'a, B: BookReader>(
 }
 
 /// Returns the same of the row of that number of an export.
-fn known_of_export<'a, B: BookReader>(
+fn told_of_export<'a>(
     alloc: Global,
-    book: &mut B,
+    known: &Known,
     transcript: &'a Transcript<'a>,
     number: usize,
     row: &'a ExportRow,
@@ -210,7 +210,7 @@ fn known_of_export<'a, B: BookReader>(
         finding: transcript.findings.of(number),
     };
     let mut text = named(alloc, &refused)?;
-    text.push_str(fact(alloc, book, &refused)?.as_str())?;
+    text.push_str(fact(alloc, known, &refused)?.as_str())?;
     if said.code == "L1" {
         text.push_str(leaving_out(alloc, row.name.as_str())?.as_str())?;
     }
@@ -219,7 +219,7 @@ fn known_of_export<'a, B: BookReader>(
 }
 
 /// Returns what a row of an export was run as, where it was run.
-fn command_of<'a>(
+pub(crate) fn command_of<'a>(
     row: &ExportRow,
     commands: &'a [(CommandKey, Asked)],
 ) -> Option<&'a (CommandKey, Asked)> {

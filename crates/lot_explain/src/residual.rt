@@ -1,8 +1,7 @@
 //! What the postings of a transaction leave in a currency, as far as its text says it.
-ghost use Rattle.std.specs.Prelude.{◌≡◌, Some, IfSome};
+ghost use Rattle.std.specs.Prelude.{◌≡◌, option_map};
 ghost use Rattle.lot_book.specs.Balance.{weight_at_price, with_sign};
-ghost use Rattle.lot_explain.specs.Residual.{residual_said, weight_in_braces, weight_said};
-ghost use Rattle.lot_explain.specs.Residual.{with_posting};
+ghost use Rattle.lot_explain.specs.Residual.{residual_said, weight_in_braces, weight_said, with_posting};
 
 use lot_base::Commodity;
 use lot_command::{Amount, Cost, Posting, Price};
@@ -12,7 +11,7 @@ use lot_num::{Units, Wide, weight};
 /// say the cost of a unit, since the lots that are taken then say it, or where the sum is out of
 /// range.
 pub(crate) fn residual(postings: &[Posting], currency: &str) -> Option<Wide>
-    ensures { IfSome result (λ sum. residual_said currency.now postings.now ≡ Some sum) }
+    ensures { result ≡ residual_said currency.now postings.now }
 {
     let mut sum = Wide::ZERO;
     for posting in postings {
@@ -23,7 +22,7 @@ pub(crate) fn residual(postings: &[Posting], currency: &str) -> Option<Wide>
 
 /// Returns the sum with what an amount weighs in the currency, where its text says it.
 fn add(sum: Wide, amount: &Option<Amount>, currency: &str) -> Option<Wide>
-    ensures { IfSome result (λ next. with_posting currency.now sum amount.now ≡ Some next) }
+    ensures { result ≡ with_posting currency.now sum amount.now }
 {
     let Some(amount) = amount else {
         return Some(sum);
@@ -40,7 +39,7 @@ fn add(sum: Wide, amount: &Option<Amount>, currency: &str) -> Option<Wide>
 
 /// Returns what an amount weighs, with the currency, where its text says it.
 fn weight_said(amount: &Amount) -> Option<(&Commodity, Wide)>
-    ensures { IfSome result (λ said. weight_said amount.now ≡ Some (said.0.now, said.1)) }
+    ensures { option_map (λ said. (said.0.now, said.1)) result ≡ weight_said amount.now }
 {
     match &amount.cost {
         Some(cost) => weight_in_braces(amount.units, cost),
@@ -50,8 +49,8 @@ fn weight_said(amount: &Amount) -> Option<(&Commodity, Wide)>
 
 /// Returns what braces say that units weigh, with the currency.
 fn weight_in_braces(units: Units, cost: &Cost) -> Option<(&Commodity, Wide)>
-    ensures { IfSome result (λ said.
-        weight_in_braces units cost.now ≡ Some (said.0.now, said.1)) }
+    ensures { option_map (λ said. (said.0.now, said.1)) result
+        ≡ weight_in_braces units cost.now }
 {
     match cost {
         Cost::Each(spec) => match (&spec.currency, spec.number) {

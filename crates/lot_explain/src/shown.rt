@@ -1,5 +1,8 @@
 //! How texts are written on a line, or on several.
 
+ghost use Rattle.std.specs.Prelude.{◌≡◌};
+ghost use Rattle.lot_explain.specs.Explained.{column_behind, fits, gap};
+
 use std::{fmt, str};
 
 /// The most columns that are shown of a line of the input.
@@ -51,21 +54,49 @@ fn write_bytes<W: fmt::Write>(bytes: &[u8], f: &mut fmt::Formatter<W>) -> fmt::R
 pub(crate) struct Wrapped<'a>(pub(crate) &'a str);
 
 impl fmt::Display for Wrapped<'_> {
+    ghost use Rattle.std.specs.Prelude.{Some};
+    ghost use Rattle.lot_explain.specs.Explained.{wrapped};
+
+    ghost output = { λ prose. Some (wrapped prose.0.now) };
+
     fn fmt<W: fmt::Write>(&self, f: &mut fmt::Formatter<W>) -> fmt::Result {
         let mut column = 0usize;
         for word in self.0.split(' ') {
-            let behind = column.saturating_add(word.len()).saturating_add(1);
-            if column == 0 {
-                column = word.len();
-            } else if behind > MOST_COLUMNS {
-                f.write_str("\n")?;
-                column = word.len();
-            } else {
-                f.write_str(" ")?;
-                column = behind;
-            }
+            f.write_str(gap(column, word))?;
             f.write_str(word)?;
+            column = column_behind(column, word);
         }
         f.write_str("\n")
     }
+}
+
+/// Returns what stands before a word, behind so many columns of a line: a space, or a line break where the line would get too long.
+fn gap(column: usize, word: &str) -> &'static str
+    ensures { result.now ≡ gap column word.now }
+{
+    if column == 0 {
+        ""
+    } else if fits(column, word) {
+        " "
+    } else {
+        "\n"
+    }
+}
+
+/// Returns how many columns of the line the words up to this one take.
+fn column_behind(column: usize, word: &str) -> usize
+    ensures { result ≡ column_behind column word.now }
+{
+    if column != 0 && fits(column, word) {
+        column + 1 + word.len()
+    } else {
+        word.len()
+    }
+}
+
+/// Returns whether a word, and a space before it, find room behind so many columns of a line.
+fn fits(column: usize, word: &str) -> bool
+    ensures { result ≡ fits column word.now }
+{
+    column.saturating_add(word.len()) < MOST_COLUMNS
 }

@@ -1,18 +1,19 @@
 //! What there is to say of the refusals and the faults of a call.
 
-use crate::book::BookReader;
 use crate::export::ExportRows;
 use crate::finding::Findings;
+use crate::known::{Known, Wanted};
 use crate::left_out::{note_left_out, note_left_out_by_name};
 use crate::notebook::Notebook;
 use crate::reading::Reading;
 use crate::refused::note_lines;
+use crate::wanted::wanted;
 use crate::warning::{warn_of_rows, warn_of_text};
 use lot_base::Label;
 use lot_command::Key as CommandKey;
 use lot_import::{Accounts, Row};
 use lot_rounding::{Asked, Decimals, Rounding};
-use std::alloc::Global;
+use std::alloc::{AllocError, Global};
 use std::io::{self, Write};
 
 /// The input of a call, and its batch.
@@ -118,36 +119,66 @@ impl<'a> Transcript<'a> {
     }
 }
 
-/// Writes a line for each refusal and each fault of a call, as many as are wanted. A line says
-/// where it stands in the input, its code and rule, and what is known of it from the input and from
-/// the book.
-///
-/// Then it writes as many lines of rows that are left out, and one for each `ref` or name to be left out that
-/// no row has; and as many warnings, each of a place that may have been meant otherwise. Where memory
-/// ends, nothing more is written.
-pub fn notes<W: Write, B: BookReader>(
-    alloc: Global,
-    writer: &mut W,
-    book: &mut B,
-    transcript: &Transcript<'_>,
-    most: u64,
-) -> io::Result<()> {
-    let mut reading = Reading::of(alloc, transcript)?;
-    let mut notes = Notebook::new(alloc, writer, most);
-    note_lines(alloc, &mut notes, book, transcript, &mut reading)?;
-    notes.end()?;
-    match &reading {
-        Reading::Rows { rows, .. } => note_left_out(alloc, writer, transcript, rows, most)?,
-        Reading::Export { rows, .. } => note_left_out_by_name(
-            alloc, writer, transcript, *rows, most,
-        )?,
-        Reading::Text { .. } | Reading::Dump => {}
+/// What a call read and said, which was read once more to be explained.
+#[derive(Drop)]
+pub struct Explanation<'a> {
+    transcript: &'a Transcript<'a>,
+    reading: Reading<'a>,
+}
+
+impl<'a> Explanation<'a> {
+    /// Reads again what a call read. The only error is out of memory.
+    pub fn of(
+        alloc: Global,
+        transcript: &'a Transcript<'a>,
+    ) -> Result<Explanation<'a>, AllocError> {
+        let reading = Reading::of(alloc, transcript)?;
+        Ok(Explanation {
+            transcript,
+            reading,
+        })
     }
-    let mut warnings = Notebook::new(alloc, writer, most);
-    match &reading {
-        Reading::Text { .. } => warn_of_text(alloc, &mut warnings, book, transcript)?,
-        Reading::Rows { rows, .. } => warn_of_rows(alloc, &mut warnings, transcript, rows)?,
-        Reading::Export { .. } | Reading::Dump => {}
+
+    /// Returns which facts of the book are wanted for it. The only error is out of memory.
+    pub fn wanted(&self, alloc: Global) -> Result<Vec<Wanted>, AllocError> {
+        wanted(alloc, self.transcript, &self.reading)
     }
-    warnings.end()
+
+    /// Writes a line for each refusal and each fault of the call, as many as are wanted. A line says
+    /// where it stands in the input, its code and rule, and what is known of it from the input and from
+    /// the book.
+    ///
+    /// Then it writes as many lines of rows that are left out, and one for each `ref` or name to be left out that
+    /// no row has; and as many warnings, each of a place that may have been meant otherwise. Where memory
+    /// ends, nothing more is written.
+    pub fn write<W: Write>(
+        self,
+        alloc: Global,
+        writer: &mut W,
+        known: &Known,
+        most: u64,
+    ) -> io::Result<()> {
+        let Explanation {
+            transcript,
+            reading,
+        } = self;
+        let mut reading = reading;
+        let mut notes = Notebook::new(alloc, writer, most);
+        note_lines(alloc, &mut notes, known, transcript, &mut reading)?;
+        notes.end()?;
+        match &reading {
+            Reading::Rows { rows, .. } => note_left_out(alloc, writer, transcript, rows, most)?,
+            Reading::Export { rows, .. } => note_left_out_by_name(
+                alloc, writer, transcript, *rows, most,
+            )?,
+            Reading::Text { .. } | Reading::Dump => {}
+        }
+        let mut warnings = Notebook::new(alloc, writer, most);
+        match &reading {
+            Reading::Text { .. } => warn_of_text(alloc, &mut warnings, known, transcript)?,
+            Reading::Rows { rows, .. } => warn_of_rows(alloc, &mut warnings, transcript, rows)?,
+            Reading::Export { .. } | Reading::Dump => {}
+        }
+        warnings.end()
+    }
 }

@@ -1,7 +1,7 @@
 //! What is read otherwise than it may have been meant, though no rule is broken.
 
-use crate::book::BookReader;
 use crate::commas::{Commas, first_with_comma};
+use crate::known::Known;
 use crate::notebook::Notebook;
 use crate::place::InputPlace;
 use crate::records::{FEE, PRICE, Records, UNITS};
@@ -21,10 +21,10 @@ use std::io::{self, Write};
 use std::{fmt, str};
 
 /// Warns of lines of a ledger text, and of a start past its end.
-pub(crate) fn warn_of_text<W: Write, B: BookReader>(
+pub(crate) fn warn_of_text<W: Write>(
     alloc: Global,
     notes: &mut Notebook<'_, W>,
-    book: &mut B,
+    known: &Known,
     transcript: &Transcript<'_>,
 ) -> io::Result<()> {
     let has_commas = memchr(b',', transcript.input).is_some();
@@ -32,8 +32,8 @@ pub(crate) fn warn_of_text<W: Write, B: BookReader>(
     for line in Lines::new(transcript.input) {
         number = number.saturating_add(1);
         let place = InputPlace::Line { number, line };
-        if may_open_or_close(line) {
-            warn_of_command(alloc, notes, book, place, line)?;
+        if matches!(first_letter(line), Some(b'o' | b'c')) {
+            warn_of_command(alloc, notes, known, place, line)?;
         }
         if has_commas && let Some(number) = number_with_comma(line) {
             warn_of_number(alloc, notes, place, number)?;
@@ -50,27 +50,31 @@ pub(crate) fn warn_of_text<W: Write, B: BookReader>(
     Ok(())
 }
 
-/// Returns whether a line may be an opening or a closing: behind its date stands a word with the
-/// first letter of one. Other lines aren't read.
-fn may_open_or_close(line: &[u8]) -> bool {
+/// Returns whether a line may be a closing: the word behind its date has the first letter of one. Other lines aren't read.
+pub(crate) fn may_close(line: &[u8]) -> bool {
+    first_letter(line) == Some(b'c')
+}
+
+/// Returns the first byte of the word behind the date of a line that isn't indented.
+fn first_letter(line: &[u8]) -> Option<u8> {
     if is_indented(line) {
-        return false;
+        return None;
     }
     for byte in line {
         match *byte {
             b'0'..=b'9' | b'-' | b'/' | b' ' | b'\t' => {}
-            first => return first == b'o' || first == b'c',
+            first => return Some(first),
         }
     }
-    false
+    None
 }
 
 /// Warns of a line on which a command begins: of a method that stands among the currencies of an
 /// opening, and of the closing of an account that holds something.
-fn warn_of_command<W: Write, B: BookReader>(
+fn warn_of_command<W: Write>(
     alloc: Global,
     notes: &mut Notebook<'_, W>,
-    book: &mut B,
+    known: &Known,
     place: InputPlace<'_>,
     line: &[u8],
 ) -> io::Result<()> {
@@ -81,7 +85,7 @@ fn warn_of_command<W: Write, B: BookReader>(
     };
     match commands.first() {
         Some(Command::Opening(opening)) => warn_of_method(notes, place, opening),
-        Some(Command::Closing(closing)) => match book.locked(&closing.account)? {
+        Some(Command::Closing(closing)) => match known.locked(&closing.account)? {
             Some(commodity) => {
                 let commodity = commodity.as_str();
                 notes.note(

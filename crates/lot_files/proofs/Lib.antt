@@ -1,1 +1,3 @@
+pub mod CopyLemmas
 pub mod MediumLemmas
+pub mod OpenLemmas

@@ -1,4 +1,5 @@
 pub mod Cause
+pub mod Copy
 pub mod Image
 pub mod Medium
 pub mod Noted

@@ -9,6 +9,21 @@ module _ {A B : Type 0} where
   either system memory (System file) = system file
   either system memory (Memory file) = memory file
 
+  abbrev IsOfSystem : Medium A B → Type 0
+  IsOfSystem (System file) = Unit {0}
+  IsOfSystem (Memory file) = ⊥
+
+  abbrev IsInMemory : Medium A B → Type 0
+  IsInMemory (System file) = ⊥
+  IsInMemory (Memory file) = Unit {0}
+
+  -- both files of a database are files of the system, or both are in memory
+  abbrev pub AreOfSystem : Files (Medium A B) → Type 0
+  AreOfSystem files = IsOfSystem files.log × IsOfSystem files.db
+
+  abbrev pub AreInMemory : Files (Medium A B) → Type 0
+  AreInMemory files = IsInMemory files.log × IsInMemory files.db
+
   -- files in memory are files of either kind
   abbrev pub in_memory : Files B → Files (Medium A B)
   in_memory files = record { log = Memory files.log; db = Memory files.db }

@@ -1,22 +1,52 @@
--- A book that is opened: its file, or a copy of it.
-use Rattle.std.specs.Prelude.{◌≡◌, false, None}
+-- A database that is opened: that of a file, or a copy of it, by what it is opened for.
+use Rattle.std.specs.Prelude.{◌≡◌, ◌⊎◌, ℕ, List, false, None}
+use Rattle.sqlite.specs.Files.{Finds, file_state}
+use Rattle.sqlite.specs.Held.{Held}
+use Rattle.sqlite.specs.State.{HasCleanDisk}
+use Rattle.sqlite_disk.specs.declared.Disk.{Ghosts}
+use Rattle.sqlite_disk.specs.declared.Files.{Files}
+use Rattle.sqlite_store.specs.declared.store.FileStore.{FileStore}
+use Rattle.lot_files.specs.Medium.{AreInMemory, AreOfSystem}
+use Rattle.lot_files.specs.declared.medium.Medium.{Medium}
+use Rattle.lot_files.specs.declared.opened.Access.{Access}
+use Rattle.lot_files.specs.declared.opened.Access.TheVariants.{Copy as ToTry, Read, Write}
 use Rattle.lot_files.specs.declared.opened.Opened.{Opened}
 use Rattle.lot_files.specs.declared.opened.Opened.TheVariants.{Copy, File}
 
-abbrev pub IsFile : Opened → Type 0
-IsFile (File conn) = Unit {0}
-IsFile (Copy conn) = ⊥
+-- what is so of a database, whichever it is
+abbrev pub IsSo : {D : Type 0} → (D → Type 0) → Opened D → Type 0
+IsSo so (File database) = so database
+IsSo so (Copy database) = so database
 
-abbrev pub IsCopy : Opened → Type 0
-IsCopy (File conn) = ⊥
-IsCopy (Copy conn) = Unit {0}
+module _ {D : Type 0} (is_in copies : List ℕ → D → Type 0) where
+  -- To be written it is the one in the file, to be tried on a copy. To be read it is either.
+  abbrev pub IsOpenedFor : Access → List ℕ → Opened D → Type 0
+  IsOpenedFor Write path (File database) = is_in path database
+  IsOpenedFor Write path (Copy database) = ⊥
+  IsOpenedFor ToTry path (File database) = ⊥
+  IsOpenedFor ToTry path (Copy database) = copies path database
+  IsOpenedFor Read path (File database) = is_in path database
+  IsOpenedFor Read path (Copy database) = copies path database
 
--- it is in no transaction
-abbrev pub IsOutside : Opened → Type 0
-IsOutside (File conn) = conn.in_transaction ≡ false
-IsOutside (Copy conn) = conn.in_transaction ≡ false
+  -- the same of a database alone
+  abbrev pub IsFor : Access → List ℕ → D → Type 0
+  IsFor Write path database = is_in path database
+  IsFor ToTry path database = copies path database
+  IsFor Read path database = is_in path database ⊎ copies path database
 
--- no limit is set on the steps of its statements
-abbrev pub IsUnlimited : Opened → Type 0
-IsUnlimited (File conn) = conn.step_limit ≡ None
-IsUnlimited (Copy conn) = conn.step_limit ≡ None
+-- a connection over two files shows what they held
+module _ {A B : Type 0} {g : Ghosts (Medium A B)} where
+  abbrev IsOver : (Files (Medium A B) → Type 0) → Held (FileStore (Medium A B) g) → Type 0
+  IsOver Are conn = HasCleanDisk (file_state conn) → (files : Files (Medium A B)) × Are files × Finds files conn
+
+  -- over two files of the system: what is written goes there
+  abbrev pub IsOverSystem : Held (FileStore (Medium A B) g) → Type 0
+  IsOverSystem conn = IsOver AreOfSystem conn
+
+  -- over two files in memory: nothing of it stays
+  abbrev pub IsOverMemory : Held (FileStore (Medium A B) g) → Type 0
+  IsOverMemory conn = IsOver AreInMemory conn
+
+  -- it is in no transaction, and no limit is set on the steps of its statements
+  abbrev pub IsReady : Held (FileStore (Medium A B) g) → Type 0
+  IsReady conn = (conn.in_transaction ≡ false) × (conn.step_limit ≡ None)

@@ -1,28 +1,27 @@
 //! A copy in memory of a book: of its file and its log, which are opened for reading alone.
 
-ghost use Rattle.std.specs.Prelude.{◌≡◌, IfErr, IfOk, None, false};
+ghost use Rattle.std.specs.Prelude.{◌≡◌, IfErr, IfOk};
 ghost use Rattle.sqlite.specs.Files.{Finds, file_state};
 ghost use Rattle.sqlite.specs.State.{HasCleanDisk};
 ghost use Rattle.lot_files.specs.Cause.{IsOfCopy};
+ghost use Rattle.lot_files.specs.Copy.{IsCopied, IsUncopied};
 ghost use Rattle.lot_files.specs.Image.{copy_of, held_by};
 ghost use Rattle.lot_files.specs.Medium.{in_memory};
+ghost use Rattle.lot_files.specs.Opened.{IsOverMemory, IsReady};
 
 use crate::cause::Cause;
-use crate::files::{Located, ensure_names_file, is_missing, locate};
+use crate::files::{ensure_names_file, is_missing, locate};
 use crate::image::Image;
 use crate::medium::Medium;
-use crate::opened::BookFile;
-use sqlite::{Connection, FileStore, Files, Options};
+use crate::opened::Database;
+use crate::source::{Source, SystemFiles};
+use sqlite::{Connection, Files, Options};
 use std::alloc::Global;
 use std::fs;
-use std::io::{self, ErrorKind, Read};
-use std::os::unix::fs::MetadataExt;
+use std::io::{self, ErrorKind};
 
 /// How often files that change meanwhile are read.
 const TRIES: usize = 100;
-
-/// How many bytes at the head of a log say from when on it is written.
-const HEAD: usize = 32;
 
 /// What the marks in the log of a copy begin with, which nobody reads.
 const SEED: u64 = 0;
@@ -33,26 +32,28 @@ const FEW: usize = 16;
 
 /// Opens a copy of the database in the file of that path. A file that isn't there is copied as an
 /// empty one. Nothing is written but the copy, which is in memory.
-pub(crate) fn open_copy<'a>(
-    rt: &HostRuntime,
-    path: &str,
-) -> Result<Connection<FileStore<BookFile<'a>>>, Cause>
-    ensures outside { IfOk result (λ conn. conn.in_transaction ≡ false) }
-    ensures unlimited { IfOk result (λ conn. conn.step_limit ≡ None) }
+pub(crate) fn open_copy<'a>(rt: &HostRuntime, path: &str) -> Result<Database<'a>, Cause>
+    ensures ready { IfOk result (λ database. IsReady database.conn) }
+    ensures over { IfOk result (λ database. IsOverMemory database.conn) }
 {
     let alloc = rt.alloc();
     if is_missing(rt, path) && fs::symlink_metadata(rt, path).is_err() {
         ensure_names_file(path)?;
         return open_nothing(alloc);
     }
-    let files = copied(rt, &locate(rt, path)?)?;
+    let located = locate(rt, path)?;
+    let mut source = SystemFiles {
+        rt,
+        located: &located,
+    };
+    let files = copied(alloc, &mut source)?;
     open_images(alloc, files, Options::new(SEED))
 }
 
 /// Opens an empty database in memory.
-pub fn open_nothing<'a>(alloc: Global) -> Result<Connection<FileStore<BookFile<'a>>>, Cause>
-    ensures outside { IfOk result (λ conn. conn.in_transaction ≡ false) }
-    ensures unlimited { IfOk result (λ conn. conn.step_limit ≡ None) }
+pub fn open_nothing<'a>(alloc: Global) -> Result<Database<'a>, Cause>
+    ensures ready { IfOk result (λ database. IsReady database.conn) }
+    ensures over { IfOk result (λ database. IsOverMemory database.conn) }
 {
     let files = Files {
         log: Image::new(Vec::new(alloc)),
@@ -71,11 +72,10 @@ fn open_images<'a>(
     alloc: Global,
     files: Files<Image>,
     options: Options,
-) -> Result<Connection<FileStore<BookFile<'a>>>, Cause>
-    ensures outside { IfOk result (λ conn. conn.in_transaction ≡ false) }
-    ensures unlimited { IfOk result (λ conn. conn.step_limit ≡ None) }
-    ensures found { IfOk result (λ conn. HasCleanDisk (file_state conn)
-        → Finds (in_memory files) conn) }
+) -> Result<Database<'a>, Cause>
+    ensures ready { IfOk result (λ database. IsReady database.conn) }
+    ensures found { IfOk result (λ database. HasCleanDisk (file_state database.conn)
+        → Finds (in_memory files) database.conn) }
     ensures cause { IfErr result IsOfCopy }
 {
     let files = Files {
@@ -83,57 +83,26 @@ fn open_images<'a>(
         db: Medium::Memory(files.db),
     };
     match Connection::open_files(alloc, files, options) {
-        Ok(conn) => Ok(conn),
+        Ok(conn) => Ok(Database { conn }),
         Err((error, _left)) => Err(Cause::of_copy(error)),
     }
 }
 
-/// Reads the files of a book into memory, as they were at one moment.
-fn copied(rt: &HostRuntime, located: &Located) -> Result<Files<Image>, Cause> {
+/// Reads the files of a book into memory, as they were at one moment. The error is that they changed meanwhile each
+/// time, or why they can't be read.
+fn copied<S: Source>(alloc: Global, source: &mut S) -> Result<Files<Image>, Cause>
+    ensures copy { IfOk result (λ files. IsCopied S.Source source.old files source.new) }
+    ensures cause { IfErr result (λ cause. IsUncopied S.Source 100 source.old cause source.new) }
+{
     for _try in 0..TRIES {
-        let before = stamp(rt, located)?;
-        let db = image_of(rt.alloc(), fs::read(rt, located.book.as_str()))?;
-        let log = image_of(rt.alloc(), fs::read(rt, located.log.as_str()))?;
-        if before == stamp(rt, located)? {
+        let before = source.stamp()?;
+        let db = image_of(alloc, source.read_book())?;
+        let log = image_of(alloc, source.read_log())?;
+        if before.is_same(&source.stamp()?) {
             return Ok(Files { log, db });
         }
     }
     Err(Cause::InUse)
-}
-
-/// Tells two states of the files of a book apart, unless commits were only put behind the log. It has the number of the
-/// book's file on its disk, its length, when it was changed last, and the head of its log.
-///
-/// A program that writes puts each commit behind the log, and copies the log into the book's file from time to time.
-/// The log then begins anew, with another head. So a file, and a log with the same head that was read behind it, hold
-/// the commits up to a moment.
-type Stamp = (u64, u64, i64, i64, [u8; HEAD]);
-
-/// Returns the stamp of the files of a book.
-fn stamp(rt: &HostRuntime, located: &Located) -> Result<Stamp, Cause> {
-    let found = fs::metadata(rt, located.book.as_str())?;
-    let head = head(rt, located.log.as_str())?;
-    Ok((
-        found.ino(),
-        found.len(),
-        found.mtime(),
-        found.mtime_nsec(),
-        head,
-    ))
-}
-
-/// Returns the head of a log, all zeros where there is none.
-fn head(rt: &HostRuntime, path: &str) -> Result<[u8; HEAD], Cause> {
-    let mut head = [0; HEAD];
-    match fs::File::open(rt, path) {
-        Ok(mut file) => match file.read_exact(&mut head) {
-            Err(error) if error.kind() == ErrorKind::UnexpectedEof => Ok([0; HEAD]),
-            Err(error) => Err(error.into()),
-            Ok(()) => Ok(head),
-        },
-        Err(error) if error.kind() == ErrorKind::NotFound => Ok(head),
-        Err(error) => Err(error.into()),
-    }
 }
 
 /// Returns a file in memory of what was read of a file; one that isn't there is empty.

@@ -1,15 +1,16 @@
 //! The files of a book: its own, and its log beside it.
 
-ghost use Rattle.std.specs.Prelude.{◌≡◌, ◌↔◌, IfOk, IsTrue, None, false};
+ghost use Rattle.std.specs.Prelude.{◌≡◌, ◌↔◌, IfOk, IsTrue};
 ghost use Rattle.std.specs.String.{string_bytes};
 ghost use Rattle.lot_files.specs.Cause.{opening_error};
+ghost use Rattle.lot_files.specs.Opened.{IsOverSystem, IsReady};
 ghost use Rattle.lot_files.specs.Path.{HasLongName, library_path, names_file, names_no_file};
 
 use crate::cause::{Cause, why};
 use crate::medium::Medium;
 use crate::noted::{Failure, Noted};
-use crate::opened::BookFile;
-use sqlite::{Connection, Error, ErrorCode, FileStore, Files, Options, Unknown};
+use crate::opened::Database;
+use sqlite::{Connection, Error, ErrorCode, Files, Options, Unknown};
 use sqlite_std_file::OpenError;
 use std::alloc::{AllocError, Global};
 use std::fs;
@@ -38,9 +39,9 @@ pub(crate) fn open<'a>(
     rt: &HostRuntime,
     path: &str,
     failure: &'a Failure,
-) -> Result<Connection<FileStore<BookFile<'a>>>, Cause>
-    ensures outside { IfOk result (λ conn. conn.in_transaction ≡ false) }
-    ensures unlimited { IfOk result (λ conn. conn.step_limit ≡ None) }
+) -> Result<Database<'a>, Cause>
+    ensures ready { IfOk result (λ database. IsReady database.conn) }
+    ensures over { IfOk result (λ database. IsOverSystem database.conn) }
 {
     let files = match sqlite_std_file::open(rt, path, Unknown) {
         Ok(Files { log, db }) => Files {
@@ -58,7 +59,7 @@ pub(crate) fn open<'a>(
         ..Options::new(seed.hash_one(&0u8))
     };
     match Connection::open_files(rt.alloc(), files, options) {
-        Ok(conn) => Ok(conn),
+        Ok(conn) => Ok(Database { conn }),
         Err((error, _left)) => Err(why(rt, path, error).or_of(failure.cause())),
     }
 }

@@ -1,7 +1,7 @@
-//! A book that is opened: its file, or a copy of it.
+//! A database that is opened: that of a file, or a copy of it.
 
-ghost use Rattle.std.specs.Prelude.{◌≡◌, IfOk};
-ghost use Rattle.lot_files.specs.Opened.{IsCopy, IsFile, IsOutside, IsUnlimited};
+ghost use Rattle.std.specs.Prelude.{IfOk};
+ghost use Rattle.lot_files.specs.Opened.{IsOpenedFor, IsOverMemory, IsOverSystem, IsReady, IsSo};
 
 use crate::cause::Cause;
 use crate::copy::open_copy;
@@ -25,11 +25,19 @@ pub enum Access {
     Copy,
 }
 
-/// A book that is opened.
+/// A database that is opened.
 #[derive(Drop)]
-pub enum Opened<'a> {
-    File(Connection<FileStore<BookFile<'a>>>),
-    Copy(Connection<FileStore<BookFile<'a>>>),
+pub enum Opened<D> {
+    /// That of a file. What is committed stays there.
+    File(D),
+    /// A copy, of which nothing stays.
+    Copy(D),
+}
+
+/// The database of a book: over a file of the system and its log, or over two in memory.
+#[derive(Drop)]
+pub struct Database<'a> {
+    pub conn: Connection<FileStore<BookFile<'a>>>,
 }
 
 /// Opens the book in the file of that path, which keeps there why a call of it failed.
@@ -38,11 +46,10 @@ pub fn open_book<'a>(
     path: &str,
     access: Access,
     failure: &'a Failure,
-) -> Result<Opened<'a>, Cause>
-    ensures outside { IfOk result IsOutside }
-    ensures unlimited { IfOk result IsUnlimited }
-    ensures file { access ≡ Access.Write → IfOk result IsFile }
-    ensures copy { access ≡ Access.Copy → IfOk result IsCopy }
+) -> Result<Opened<Database<'a>>, Cause>
+    ensures opened { IfOk result (IsOpenedFor (λ _ database. IsOverSystem database.conn)
+        (λ _ database. IsOverMemory database.conn) access path.now) }
+    ensures ready { IfOk result (IsSo (λ database. IsReady database.conn)) }
 {
     match access {
         Access::Write => Ok(Opened::File(open(rt, path, failure)?)),
@@ -52,9 +59,14 @@ pub fn open_book<'a>(
 }
 
 /// Opens it to be read.
-fn open_to_read<'a>(rt: &HostRuntime, path: &str, failure: &'a Failure) -> Result<Opened<'a>, Cause>
-    ensures outside { IfOk result IsOutside }
-    ensures unlimited { IfOk result IsUnlimited }
+fn open_to_read<'a>(
+    rt: &HostRuntime,
+    path: &str,
+    failure: &'a Failure,
+) -> Result<Opened<Database<'a>>, Cause>
+    ensures opened { IfOk result (IsOpenedFor (λ _ database. IsOverSystem database.conn)
+        (λ _ database. IsOverMemory database.conn) Access.Read path.now) }
+    ensures ready { IfOk result (IsSo (λ database. IsReady database.conn)) }
 {
     if is_empty(rt, path) {
         return Ok(Opened::Copy(open_copy(rt, path)?));

@@ -9,7 +9,7 @@ use Rattle.sqlite_disk.specs.declared.Disk.{Ghosts}
 use Rattle.sqlite_schema.specs.declared.schema.Schema.{Schema}
 use Rattle.sqlite_store.specs.declared.store.FileStore.{FileStore}
 use Rattle.lot_args.specs.declared.action.Action.{Action}
-use Rattle.lot_args.specs.declared.action.Action.TheVariants.{Check, Init, Migrate, Post, PostRow, Import, ImportBy, Holdings, Gains, Journal, Dump, Restore, Verify}
+use Rattle.lot_args.specs.declared.action.Action.TheVariants.{Check, Init, Migrate, Post, PostRow, Import, ImportBy, Report, Restore, Verify}
 use Rattle.lot_args.specs.declared.action.Keeping.{Keeping}
 use Rattle.lot_args.specs.declared.action.Keeping.TheVariants.{AllOrNone, Each}
 use Rattle.lot_args.specs.declared.action.Restore.{Restore as RestoreOf}
@@ -40,7 +40,7 @@ use Rattle.lot_table.specs.Shape.{schema_of}
 use Rattle.lot_cli.proofs.ReopenLemmas.{found_after_stop}
 use Rattle.lot_cli.specs.Init.{IsMade}
 use Rattle.lot_cli.specs.Reopen.{LeavesOneOf, StandsForOneOf}
-use Rattle.lot_cli.specs.Reports.{Reports}
+use Rattle.lot_cli.specs.Reports.{Reports, Writing}
 use Rattle.lot_cli.specs.Restore.{RestoresBook, terms_for}
 use Rattle.lot_cli.specs.Runs.{RowAlone, RunsBy, RunsInput, RunsOn, decimals_of}
 use Rattle.lot_cli.specs.Says.{Told}
@@ -104,9 +104,9 @@ module _ (old new : State) (clean : HasCleanDisk new) (book : List Entry) (stand
       ran_of Means IsFaulty keeping reading told (inl faulty) = unchanged faulty.2.crash
       ran_of Means IsFaulty keeping reading told (inr given) = ran_on keeping given.0.0 given.0.1 told given.2
 
-    reported : (report : _) (told : Told) → Reports report old new before written calls told → Leave nothing_sent
-    reported report told (inl shown) = unchanged shown.1.read.crash
-    reported report told (inr left) = unchanged left.1.crash
+    reported : (writing : Writing) (told : Told) → Reports writing old new before written calls told → Leave nothing_sent
+    reported writing told (inl shown) = unchanged shown.1.read.crash
+    reported writing told (inr left) = unchanged left.1.crash
 
     migrated : (told : Told) → SaysMigrated old new before written calls told → Leave nothing_sent
     migrated told (inl said) = stays (LeavesMigrated old) (λ trees leaves. isnt_older old book stands unlimited leaves.0) said.0.crash
@@ -144,10 +144,7 @@ module _ (old new : State) (clean : HasCleanDisk new) (book : List Entry) (stand
   served (ImportBy asked) on input before written calls told serves =
       ran_of before written calls asked.rounding (ExportMeans asked.batch asked.profile asked.except.items)
       (IsFaultyExport asked.profile asked.except.items) asked.keeping input told serves
-  served (Holdings path day format) on input before written calls told serves = reported before written calls _ told serves
-  served (Gains path first last format) on input before written calls told serves = reported before written calls _ told serves
-  served (Journal path) on input before written calls told serves = reported before written calls _ told serves
-  served (Dump path) on input before written calls told serves = reported before written calls _ told serves
+  served (Report path report) on input before written calls told serves = reported before written calls _ told serves
   served (Restore asked) on input before written calls told serves = restored before written calls asked input told serves
   served (Verify path saying) on input before written calls told serves = verified before written calls saying told serves
 

@@ -10,7 +10,7 @@ use Rattle.sqlite_disk.specs.declared.Disk.{Ghosts}
 use Rattle.sqlite_disk.specs.declared.Files.{Files}
 use Rattle.sqlite_store.specs.declared.store.FileStore.{FileStore}
 use Rattle.lot_args.specs.declared.action.Action.{Action}
-use Rattle.lot_args.specs.declared.action.Action.TheVariants.{Check, Init, Migrate, Post, PostRow, Import, ImportBy, Holdings, Gains, Journal, Dump, Restore, Verify}
+use Rattle.lot_args.specs.declared.action.Action.TheVariants.{Check, Init, Migrate, Post, PostRow, Import, ImportBy, Report, Restore, Verify}
 use Rattle.lot_args.specs.declared.action.Keeping.{Keeping}
 use Rattle.lot_args.specs.declared.action.Keeping.TheVariants.{AllOrNone, Each}
 use Rattle.lot_command.specs.declared.key.Key.{Key}
@@ -71,10 +71,7 @@ sent_by (Import asked) call serves =
     sent_of call.old call.new call.before call.written call.calls asked.rounding _ _ asked.keeping call.told serves
 sent_by (ImportBy asked) call serves =
     sent_of call.old call.new call.before call.written call.calls asked.rounding _ _ asked.keeping call.told serves
-sent_by (Holdings book day format) call serves = nothing_sent
-sent_by (Gains book first last format) call serves = nothing_sent
-sent_by (Journal book) call serves = nothing_sent
-sent_by (Dump book) call serves = nothing_sent
+sent_by (Report book report) call serves = nothing_sent
 sent_by (Restore asked) call serves = nothing_sent
 sent_by (Verify book saying) call serves = nothing_sent
 
@@ -89,10 +86,7 @@ IsOnBook (Post asked) = ⊤
 IsOnBook (PostRow book batch reference rounding) = ⊤
 IsOnBook (Import asked) = ⊤
 IsOnBook (ImportBy asked) = ⊤
-IsOnBook (Holdings book day format) = ⊤
-IsOnBook (Gains book first last format) = ⊤
-IsOnBook (Journal book) = ⊤
-IsOnBook (Dump book) = ⊤
+IsOnBook (Report book report) = ⊤
 IsOnBook (Restore asked) = ⊤
 IsOnBook (Verify book saying) = ⊤
 

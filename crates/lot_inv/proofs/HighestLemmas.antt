@@ -11,12 +11,13 @@ use Rattle.lot_cost.proofs.ListLemmas.{all_weaker}
 use Rattle.lot_inv.specs.declared.foremost.Foremost.{Foremost}
 use Rattle.lot_inv.specs.declared.foremost.Foremost.TheVariants.{Highest}
 use Rattle.lot_inv.specs.declared.lot.Lot.{Lot}
-use Rattle.lot_inv.specs.Foremost.{AreLentOf, HoldsAtHighest, of_number}
+use Rattle.lot_inv.specs.Foremost.{AreLentOf, HoldsAtHighest, is_later, of_number}
 use Rattle.lot_inv.specs.Holding.{takeable_lots}
 use Rattle.lot_inv.specs.Inventory.{held_in, other_sign, with_number}
 use Rattle.lot_inv.specs.Lot.{key_and_units}
 use Rattle.lot_inv.proofs.AvailableLemmas.{held_in-cons}
 use Rattle.lot_inv.proofs.LentLemmas.{AreLater, misfits_lent}
+use Rattle.lot_inv.proofs.RankLemmas.{lower_later}
 use Rattle.lot_inv.proofs.RowLemmas.{none_isnt_some}
 
 -- ---- lots that are gone through
@@ -172,8 +173,8 @@ lent_highest amount number all holds =
       others = others;
       same = IsPermutation-filter_both here (λ (lot : Lot). not (number == lot.key.number)) (λ lot. refl) all;
       later = all_weaker (λ (lot : Lot). here lot ≡ true) (AreLater Highest others)
-          (λ lot is. all_weaker (λ (other : Lot). nat_lt other.key.number number ≡ true) (λ (other : Lot). nat_lt other.key.number lot.key.number ≡ true)
-          (λ other less. grind (arith, nat_tests)) others lower) (of_number number all)
+          (λ lot is. all_weaker (λ (other : Lot). nat_lt other.key.number number ≡ true) (λ (other : Lot). is_later Highest other lot ≡ true)
+          (λ other less. lower_later lot.key.number other.key.number (grind (arith, nat_tests))) others lower) (of_number number all)
           (recursion_from_All (λ (lot : Lot). here lot ≡ true) (of_number number all) (filter_passes here all));
       enough = λ _. holds.held;
     }

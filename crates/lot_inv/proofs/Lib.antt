@@ -1,8 +1,8 @@
 pub mod AvailableLemmas
-pub mod ByNumberLemmas
 pub mod CountLemmas
 pub mod FittingLemmas
 pub mod HighestLemmas
+pub mod IndexLemmas
 pub mod InventoryLemmas
 pub mod LawLemmas
 pub mod LentLemmas
@@ -11,6 +11,7 @@ pub mod LotLemmas
 pub mod OnlyLotsLemmas
 pub mod OpeningLemmas
 pub mod OrderLemmas
+pub mod RankLemmas
 pub mod RowLemmas
 pub mod SameLemmas
 pub mod SetLemmas

@@ -1,9 +1,11 @@
 -- Which lots are counted and lent of those that units may take.
-use Rattle.std.specs.Prelude.{◌≡◌, ◌⊎◌, ℕ, ◌≤◌, ◌<◌, Bool, true, false, nat_lt, List, [], ◌∷◌, ◌++◌, ◌==◌, filter, length, map, reverse, Option, None, Some, ℤ, int_lt, IsPermutation}
+use Rattle.std.specs.Prelude.{◌≡◌, ◌⊎◌, ℕ, ◌≤◌, ◌<◌, Bool, true, false, List, [], ◌∷◌, ◌++◌, ◌==◌, filter, length, map, reverse, Option, None, Some, ℤ, pos, neg_ℤ, IsPermutation}
+use Rattle.std.specs.declared.cmp.Ordering.{Ordering}
 use Rattle.std.specs.List.{AllByRecursion}
+use Rattle.std.specs.Ordering.{int_cmp, is_lt, nat_cmp, ordering_then}
 use Rattle.lot_cost.specs.declared.lot_key.LotKey.{LotKey}
 use Rattle.lot_inv.specs.declared.foremost.Foremost.{Foremost}
-use Rattle.lot_inv.specs.declared.foremost.Foremost.TheVariants.{Oldest, Newest, Highest}
+use Rattle.lot_inv.specs.declared.foremost.Foremost.TheVariants.{Oldest, Newest, Highest, OldestOpened, NewestOpened, HighestOpened}
 use Rattle.lot_inv.specs.declared.lot.Lot.{Lot}
 use Rattle.lot_inv.specs.Inventory.{held_in}
 use Rattle.lot_inv.specs.Lot.{key_and_units}
@@ -34,30 +36,67 @@ only_of (lot ∷ next ∷ lots) = None
 
 -- ---- lots that are lent
 
--- whether a key comes later than another: it is of a later day, of an earlier one, or of a lower number
-abbrev pub is_later : Foremost → LotKey → LotKey → Bool
-is_later Oldest key other = int_lt other.day key.day
-is_later Newest key other = int_lt key.day other.day
-is_later Highest key other = nat_lt key.number other.number
+-- where lots are lent: those of a lower rank before the others, those of one rank together
+abbrev pub Rank : Type 0
+Rank = ℤ × ℕ
+
+-- the order of ranks: by the first part, then by the second
+abbrev pub rank_cmp : Rank → Rank → Ordering
+rank_cmp a b = ordering_then (int_cmp a.0 b.0) (nat_cmp a.1 b.1)
+
+-- the rank of a lot that has a key and an opening number: it goes by the day from the first one or from the last one, or by the
+-- number from the highest one, and then by the opening number or by nothing
+abbrev pub rank : Foremost → LotKey → ℕ → Rank
+rank Oldest key opening = (key.day, 0)
+rank Newest key opening = (neg_ℤ key.day, 0)
+rank Highest key opening = (neg_ℤ (pos key.number), 0)
+rank OldestOpened key opening = (key.day, opening)
+rank NewestOpened key opening = (neg_ℤ key.day, opening)
+rank HighestOpened key opening = (neg_ℤ (pos key.number), opening)
+
+-- those of one day or of one number are lent together
+abbrev pub together : Foremost → Foremost
+together Oldest = Oldest
+together Newest = Newest
+together Highest = Highest
+together OldestOpened = Oldest
+together NewestOpened = Newest
+together HighestOpened = Highest
+
+-- those of one day or of one number are lent by their opening numbers
+abbrev pub opened : Foremost → Foremost
+opened Oldest = OldestOpened
+opened Newest = NewestOpened
+opened Highest = HighestOpened
+opened OldestOpened = OldestOpened
+opened NewestOpened = NewestOpened
+opened HighestOpened = HighestOpened
+
+-- whether a lot comes later than another
+abbrev pub is_later : Foremost → Lot → Lot → Bool
+is_later foremost lot other = is_lt (rank_cmp (rank foremost other.key other.opening) (rank foremost lot.key lot.opening))
 
 -- a list of lots in the order of their keys as it is gone through: from its end for the last days
 abbrev pub gone_through : {X : Type 0} → Foremost → List X → List X
 gone_through Oldest lots = lots
 gone_through Newest lots = reverse lots
 gone_through Highest lots = lots
+gone_through OldestOpened lots = lots
+gone_through NewestOpened lots = reverse lots
+gone_through HighestOpened lots = lots
 
--- whether a key comes later than the last of lots
-abbrev pub is_past : Foremost → List Lot → LotKey → Bool
-is_past foremost [] key = false
-is_past foremost (lot ∷ []) key = is_later foremost key lot.key
-is_past foremost (lot ∷ next ∷ lots) key = is_past foremost (next ∷ lots) key
+-- whether a lot comes later than the last of others
+abbrev pub is_past : Foremost → List Lot → Lot → Bool
+is_past foremost [] lot = false
+is_past foremost (last ∷ []) lot = is_later foremost lot last
+is_past foremost (first ∷ next ∷ lots) lot = is_past foremost (next ∷ lots) lot
 
 -- some lots are lent of all: each of the others comes later, and where all hold an amount those that are lent do
 pub record AreLentOf (foremost : Foremost) (amount : ℕ) (all lots : List Lot) : Type 0 where
   pub others : List Lot
   pub same : IsPermutation all (lots ++ others)
   pub later : AllByRecursion (λ (lot : Lot).
-      AllByRecursion (λ (other : Lot). is_later foremost other.key lot.key ≡ true) others) lots
+      AllByRecursion (λ (other : Lot). is_later foremost other lot ≡ true) others) lots
   pub enough : amount ≤ held_in (map key_and_units all) → amount ≤ held_in (map key_and_units lots)
 
 -- the lots of a number

@@ -1,6 +1,6 @@
-pub mod ByNumber
 pub mod Foremost
 pub mod Holding
+pub mod Index
 pub mod Inventory
 pub mod Lot
 pub mod Lots

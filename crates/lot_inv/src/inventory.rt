@@ -184,8 +184,8 @@ impl Inventory {
         }
     }
 
-    /// Returns the lots that units may take at a number, the foremost ones: those of a day or of a number together, until they
-    /// hold the units. Their keys are lent, not copied. The only error is out of memory.
+    /// Returns the lots that units may take at a number, the foremost ones, until they hold the units: those of a day or of a
+    /// number together, or by their opening numbers. Their keys are lent, not copied. The only error is out of memory.
     ///
     /// The specification has that number itself, or none.
     pub fn takeable(

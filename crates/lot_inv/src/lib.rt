@@ -6,14 +6,14 @@
 //! - `foremost`: `Foremost`, which lots are lent before the others.
 //! - `lot`: `Lot`, a lot that is held, and `LentLot`, one whose key is lent.
 //! - `lots`: `Lots`, the lots of one commodity, under their keys, and `Available`, those that units may take.
-//! - `by_number`: the same lots by their numbers.
+//! - `index`: the same lots in the order in which they are lent.
 //! - `fault`: `InventoryFault`, why units aren't added.
 //! - `laws`: what holds of the definitions that the contracts cite.
 #![tactic(auto)]
 
-mod by_number;
 mod fault;
 mod foremost;
+mod index;
 mod inventory;
 pub mod laws;
 mod lot;

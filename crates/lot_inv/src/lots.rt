@@ -11,13 +11,14 @@ ghost use Rattle.lot_cost.specs.LotKey.{lot_cmp};
 ghost use Rattle.lot_cost.specs.declared.lot_key.LotKey.{LotKey};
 ghost use Rattle.lot_inv.specs.declared.foremost.Foremost.TheVariants.{Highest};
 ghost use Rattle.lot_inv.specs.declared.lot.Lot.{Lot};
-ghost use Rattle.lot_inv.specs.Foremost.{AreLentOf, Counts, HoldsAtHighest, gone_through, only_of};
+ghost use Rattle.lot_inv.specs.Foremost.{AreLentOf, Counts, HoldsAtHighest, gone_through, only_of, opened, together};
 ghost use Rattle.lot_inv.specs.Inventory.{as_entries, other_sign, with_number};
+ghost use Rattle.lot_inv.specs.Index.{IsIndex};
 ghost use Rattle.lot_inv.specs.Holding.{kept, listed, lot_rows, takeable, takeable_lots, units_in};
 ghost use Rattle.lot_inv.specs.Lots.{count_of, counted_in, is_below, lot_at};
 
-use crate::by_number::{ByNumber, by_number, next_highest, with_lot};
 use crate::foremost::Foremost;
+use crate::index::{Index, renewed};
 use crate::inventory::is_other_sign;
 use crate::lot::{LentLot, Lot};
 use lot_base::Commodity;
@@ -29,7 +30,7 @@ use std::collections::btree_map::Iter;
 use std::marker::Model;
 use std::mem;
 
-/// With more lots than these they are kept by their numbers too.
+/// With more lots than these there are indexes of them.
 const MANY: usize = 64;
 
 /// What is kept of a lot under its key.
@@ -71,8 +72,13 @@ pub struct Available<'a> {
 pub(crate) struct Lots {
     alloc: Global,
     by_key: BTreeMap<LotKey, OpenLot>,
-    /// The same lots by their numbers, once they were many. It is left out where memory lacks for it.
-    by_number: Option<ByNumber>,
+    /// The same lots in the order in which the oldest ones are lent, once they were many. Each of these indexes is left out where
+    /// memory lacks for it.
+    oldest_first: Option<Index>,
+    /// The same for the newest ones.
+    newest_first: Option<Index>,
+    /// The same for those of the highest number.
+    highest_first: Option<Index>,
     /// How many of them are below zero. The others are above it.
     below: u64,
 }
@@ -81,7 +87,8 @@ impl Model for Lots {
     ghost use Rattle.std.specs.Prelude.{IfSome, List};
     ghost use Rattle.lot_cost.specs.declared.lot_key.LotKey.{LotKey};
     ghost use Rattle.lot_inv.specs.declared.lots.OpenLot.{OpenLot};
-    ghost use Rattle.lot_inv.specs.ByNumber.{IsByNumber};
+    ghost use Rattle.lot_inv.specs.declared.foremost.Foremost.TheVariants.{HighestOpened, NewestOpened, OldestOpened};
+    ghost use Rattle.lot_inv.specs.Index.{IsIndex};
     ghost use Rattle.lot_inv.specs.Lots.{AreCounted};
 
     ghost Value = { List (LotKey × OpenLot) };
@@ -90,7 +97,12 @@ impl Model for Lots {
 
     ghost invariant = { λ l. record {
       counted : AreCounted l.below l.by_key.entries;
-      indexed : IfSome l.by_number (λ index. IsByNumber index.entries l.by_key.entries);
+      oldest : IfSome l.oldest_first
+          (λ index. IsIndex OldestOpened index.entries l.by_key.entries);
+      newest : IfSome l.newest_first
+          (λ index. IsIndex NewestOpened index.entries l.by_key.entries);
+      highest : IfSome l.highest_first
+          (λ index. IsIndex HighestOpened index.entries l.by_key.entries);
     } };
 }
 
@@ -102,7 +114,9 @@ impl Lots {
         Lots {
             alloc,
             by_key: BTreeMap::new(alloc),
-            by_number: None,
+            oldest_first: None,
+            newest_first: None,
+            highest_first: None,
             below: 0,
         }
     }
@@ -224,18 +238,58 @@ impl Lots {
             (takeable_lots units (with_number number.now spec.now) (listed self.now))
             lots.items) }
     {
-        match (foremost, number) {
-            (Foremost::Highest, None) => {
-                if let Some(lots) = self.highest_first(alloc, units, number, spec)? {
-                    return Ok(lots);
-                }
-                let highest = self.highest(units, spec);
-                self.takeable_at(alloc, units, &highest, spec)
+        if let Some(lots) = self.in_turn(alloc, foremost, units, number, spec)? {
+            return Ok(lots);
+        }
+        match foremost.together() {
+            Foremost::Highest => self.at_highest(alloc, units, number, spec),
+            together => self.by_day(alloc, together, units, number, spec),
+        }
+    }
+
+    /// Returns the lots that units may take at a number, the foremost ones, as they stand in an index. It is `None` where there is
+    /// no index.
+    fn in_turn(
+        &self,
+        alloc: Global,
+        foremost: Foremost,
+        units: Units,
+        number: &Option<Rate>,
+        spec: &CostSpec,
+    ) -> Result<Option<Vec<LentLot<'_>>>, AllocError>
+        requires number { (spec.now.number ≡ None) ⊎ (spec.now.number ≡ number.now) }
+        requires sorted { IsStrictlySortedBy lot_cmp (keys_of self.now) }
+        ensures { IfOk result (λ found. IfSome found (λ lots.
+            AreLentOf foremost (unsigned_abs units)
+            (takeable_lots units (with_number number.now spec.now) (listed self.now))
+            lots.items)) }
+    {
+        let Some(index) = self.index(foremost) else {
+            return Ok(None);
+        };
+        let mut left = units.mantissa().unsigned_abs();
+        let mut lots = Vec::new(alloc);
+        for (at, lot) in index {
+            let key = &at.1;
+            if left == 0 && foremost.is_past(&lots, &lot.lend(key)) {
+                return Ok(Some(lots));
             }
-            (Foremost::Highest, Some(_)) => self.takeable_at(alloc, units, number, spec),
-            (Foremost::Oldest | Foremost::Newest, _) => {
-                self.by_day(alloc, foremost, units, number, spec)
+            if is_other_sign(lot.units, units) && fits_at(number, spec, key) {
+                lots.push(lot.lend(key))?;
+                left = left.saturating_sub(lot.units.mantissa().unsigned_abs());
             }
+        }
+        Ok(Some(lots))
+    }
+
+    /// Returns the index in which the foremost lots come first, or `None` where there is none.
+    fn index(&self, foremost: Foremost) -> Option<&Index>
+        ensures { IfSome result (λ index. IsIndex (opened foremost) index.now.entries self.now) }
+    {
+        match foremost {
+            Foremost::Oldest | Foremost::OldestOpened => self.oldest_first.as_ref(),
+            Foremost::Newest | Foremost::NewestOpened => self.newest_first.as_ref(),
+            Foremost::Highest | Foremost::HighestOpened => self.highest_first.as_ref(),
         }
     }
 
@@ -249,6 +303,7 @@ impl Lots {
         spec: &CostSpec,
     ) -> Result<Vec<LentLot<'_>>, AllocError>
         requires days { foremost ≢ Highest }
+        requires together { together foremost ≡ foremost }
         requires number { (spec.now.number ≡ None) ⊎ (spec.now.number ≡ number.now) }
         requires sorted { IsStrictlySortedBy lot_cmp (keys_of self.now) }
         ensures { IfOk result (λ lots. AreLentOf foremost (unsigned_abs units)
@@ -259,7 +314,7 @@ impl Lots {
         let mut lots = Vec::new(alloc);
         let mut entries = self.iter();
         while let Some((key, lot)) = next(foremost, &mut entries) {
-            if left == 0 && foremost.is_past(&lots, key) {
+            if left == 0 && foremost.is_past(&lots, &lot.lend(key)) {
                 return Ok(lots);
             }
             if is_other_sign(lot.units, units) && fits_at(number, spec, key) {
@@ -268,6 +323,28 @@ impl Lots {
             }
         }
         Ok(lots)
+    }
+
+    /// Returns the lots that units may take at a number, those of the highest number or all of them.
+    fn at_highest(
+        &self,
+        alloc: Global,
+        units: Units,
+        number: &Option<Rate>,
+        spec: &CostSpec,
+    ) -> Result<Vec<LentLot<'_>>, AllocError>
+        requires { (spec.now.number ≡ None) ⊎ (spec.now.number ≡ number.now) }
+        ensures { IfOk result (λ lots. AreLentOf Highest (unsigned_abs units)
+            (takeable_lots units (with_number number.now spec.now) (listed self.now))
+            lots.items) }
+    {
+        match number {
+            Some(_) => self.takeable_at(alloc, units, number, spec),
+            None => {
+                let highest = self.highest(units, spec);
+                self.takeable_at(alloc, units, &highest, spec)
+            }
+        }
     }
 
     /// Returns the highest number of the lots that units may take, where the lots of that number hold the units.
@@ -317,39 +394,6 @@ impl Lots {
         Ok(lots)
     }
 
-    /// Returns the lots of the highest numbers that units may take at a number, number by number until they hold the units.
-    /// It is `None` where lots aren't kept by their numbers.
-    fn highest_first(
-        &self,
-        alloc: Global,
-        units: Units,
-        number: &Option<Rate>,
-        spec: &CostSpec,
-    ) -> Result<Option<Vec<LentLot<'_>>>, AllocError>
-        requires number { (spec.now.number ≡ None) ⊎ (spec.now.number ≡ number.now) }
-        requires sorted { IsStrictlySortedBy lot_cmp (keys_of self.now) }
-        ensures { IfOk result (λ found. IfSome found (λ lots. AreLentOf Highest (unsigned_abs units)
-            (takeable_lots units (with_number number.now spec.now) (listed self.now))
-            lots.items)) }
-    {
-        let Some(index) = &self.by_number else {
-            return Ok(None);
-        };
-        let mut left = units.mantissa().unsigned_abs();
-        let mut lots = Vec::new(alloc);
-        let mut entries = index.iter();
-        while let Some((key, lot)) = next_highest(&mut entries) {
-            if left == 0 && Foremost::Highest.is_past(&lots, key) {
-                return Ok(Some(lots));
-            }
-            if is_other_sign(lot.units, units) && fits_at(number, spec, key) {
-                lots.push(lot.lend(key))?;
-                left = left.saturating_sub(lot.units.mantissa().unsigned_abs());
-            }
-        }
-        Ok(Some(lots))
-    }
-
     /// Lists the lots of a commodity behind other rows, in the order of their keys.
     pub(crate) fn list(
         &self,
@@ -377,15 +421,41 @@ impl Lots {
         ensures some { OnErr result (units ≢ pos 0) }
     {
         let before = put(&mut self.by_key, key, units, opening)?;
-        let lots = self.by_key.len();
-        self.below += one_if_below(Some(OpenLot { units, opening }));
-        self.below -= one_if_below(before);
-        let index = match self.by_number.take() {
-            Some(index) => with_lot(index, key, units, opening),
-            None if MANY < lots => by_number(self.alloc, &self.by_key),
-            None => None,
+        let lot = OpenLot { units, opening };
+        let alloc = if MANY < self.by_key.len() {
+            Some(self.alloc)
+        } else {
+            None
         };
-        self.by_number = index;
+        self.below += one_if_below(&Some(OpenLot { units, opening }));
+        self.below -= one_if_below(&before);
+        self.oldest_first = renewed(
+            self.oldest_first.take(),
+            alloc,
+            Foremost::OldestOpened,
+            &self.by_key,
+            key,
+            &before,
+            &lot,
+        );
+        self.newest_first = renewed(
+            self.newest_first.take(),
+            alloc,
+            Foremost::NewestOpened,
+            &self.by_key,
+            key,
+            &before,
+            &lot,
+        );
+        self.highest_first = renewed(
+            self.highest_first.take(),
+            alloc,
+            Foremost::HighestOpened,
+            &self.by_key,
+            key,
+            &before,
+            &lot,
+        );
         Ok(())
     }
 }
@@ -396,7 +466,9 @@ impl Drop for Lots {
         let Lots {
             alloc: _alloc,
             by_key: _by_key,
-            by_number: _by_number,
+            oldest_first: _oldest_first,
+            newest_first: _newest_first,
+            highest_first: _highest_first,
             below: _below,
         } = self;
     }
@@ -416,6 +488,7 @@ fn put(
     ensures counts { IfOk result (λ before. (test : ℤ → Bool)
         → count_of test lots.new.entries + counted_in test before
         ≡ count_of test lots.old.entries + counted_in test (kept units opening)) }
+    ensures before { IfOk result (λ before. get lot_cmp lots.old key.now ≡ before) }
     ensures err { OnErr result (lots.new.entries ≡ lots.old.entries) }
     ensures memory { OnErr result (get lot_cmp lots.old key.now ≡ None) }
     ensures some { OnErr result (units ≢ pos 0) }
@@ -434,8 +507,8 @@ fn put(
 }
 
 /// Returns 1 for a lot below zero, 0 for another, and for none.
-fn one_if_below(lot: Option<OpenLot>) -> u64
-    ensures { result ≡ counted_in is_below lot }
+fn one_if_below(lot: &Option<OpenLot>) -> u64
+    ensures { result ≡ counted_in is_below lot.now }
 {
     match lot {
         Some(lot) => u64::from(lot.units.mantissa() < 0),
@@ -453,8 +526,9 @@ fn next<'a>(
         ≡ (lot.0.now, lot.1.now) ∷ gone_through foremost lots.new) }
 {
     match foremost {
-        Foremost::Oldest | Foremost::Highest => lots.next(),
-        Foremost::Newest => lots.next_back(),
+        Foremost::Newest | Foremost::NewestOpened => lots.next_back(),
+        Foremost::Oldest | Foremost::OldestOpened => lots.next(),
+        Foremost::Highest | Foremost::HighestOpened => lots.next(),
     }
 }
 

@@ -48,6 +48,15 @@ impl<W> Witness<W> {
         }
     }
 
+    /// Returns the writer, and what was heard.
+    pub fn into_parts(self) -> (W, Heard)
+        ensures writer { result.0 ≡ self.writer }
+        ensures heard { result.1 ≡ self.heard }
+    {
+        let Witness { writer, heard, .. } = self;
+        (writer, heard)
+    }
+
     /// Hears a line, and keeps it where it says that something wasn't done.
     fn hear(&mut self, line: &[u8])
         ensures heard { Hears self.old.most line.now self.old.heard self.new.heard }

@@ -15,5 +15,5 @@ mod record;
 pub use course::Course;
 pub use heard::{Heard, Witness};
 pub use meter::Meter;
-pub use output::Output;
+pub use output::{Output, Pace};
 pub use record::Record;

@@ -1,70 +1,81 @@
 //! Standard output.
 
-use crate::meter::Meter;
-use std::io::{self, BufWriter, Printer, Write};
-use std::mem;
+ghost use Rattle.std.specs.Prelude.{◌≡◌};
+ghost use Rattle.std.specs.Io.Buffered.{writer_contents, writer_inner};
 
-/// Standard output. The replies of a run are written out at once, and a meter counts them. Other
-/// text goes through a buffer.
+use crate::meter::Meter;
+use std::alloc::Global;
+use std::io::{self, BufWriter, Write};
+
+/// How an output is written.
+#[derive(Clone, Copy)]
+pub enum Pace {
+    /// Each reply at once.
+    AtOnce,
+    /// Through a buffer, where there is memory for one: text that is written whole, or nearly so.
+    Buffered,
+}
+
+/// An output to a writer, whose replies a meter counts. What a contract says that it holds is what the writer holds and, behind that,
+/// what is in the buffer.
 #[derive(Drop)]
-pub struct Output<'a> {
-    rt: &'a HostRuntime,
-    to: Target<'a>,
+pub struct Output<'a, W: Write + Drop> {
+    buffer: BufWriter<W>,
     replies: Meter<'a>,
 }
 
-/// Where an output goes.
-#[derive(Drop)]
-enum Target<'a> {
-    /// Replies, and text where there is no memory for a buffer.
-    AtOnce,
-    Buffered(BufWriter<Printer<'a, HostRuntime>>),
-}
-
-impl<'a> Output<'a> {
-    /// Returns an output of replies to what is named, in the plural; or without such a name of text that
-    /// is written whole, or nearly so.
-    pub fn new(rt: &'a HostRuntime, counted: Option<&'static str>) -> Output<'a> {
-        let to = match counted {
-            Some(_) => Target::AtOnce,
-            None => match BufWriter::new(rt.alloc(), io::writer(rt)) {
-                Ok(buffer) => Target::Buffered(buffer),
-                Err(_) => Target::AtOnce,
-            },
-        };
+impl<'a, W: Write + Copy + Drop> Output<'a, W> {
+    /// Returns an output to a writer.
+    pub fn new(alloc: Global, writer: W, pace: Pace, replies: Meter<'a>) -> Output<'a, W>
+        ensures { writer_contents W.contents result.buffer ≡ W.contents writer }
+    {
         Output {
-            rt,
-            to,
-            replies: Meter::of_replies(rt, counted),
-        }
-    }
-
-    /// Ends the line that shows the progress, if there is one. What could not be written is discarded.
-    pub fn end(&mut self) {
-        self.replies.end();
-        // Dropping the buffer would try once more.
-        if let Target::Buffered(buffer) = mem::replace(&mut self.to, Target::AtOnce) {
-            let _unwritten = buffer.into_parts();
+            buffer: buffer(alloc, writer, pace),
+            replies,
         }
     }
 }
 
-impl Write for Output<'_> {
+impl<W: Write + Drop> Output<'_, W> {
+    /// Ends the line that shows the progress, if there is one, and returns the writer. What is still in the buffer, since it could
+    /// not be written, is discarded.
+    pub fn end(self) -> W
+        ensures { result ≡ writer_inner self.entry.buffer }
+    {
+        let Output { buffer, replies } = self;
+        let mut replies = replies;
+        replies.end();
+        // Dropping the buffer would try once more.
+        let (writer, _unwritten) = buffer.into_parts();
+        writer
+    }
+}
+
+/// Returns a buffer in front of a writer. One without room writes all at once.
+fn buffer<W: Write + Copy + Drop>(alloc: Global, writer: W, pace: Pace) -> BufWriter<W>
+    ensures { writer_contents W.contents result ≡ W.contents writer }
+{
+    if let Pace::Buffered = pace
+        && let Ok(buffer) = BufWriter::new(alloc, writer)
+    {
+        return buffer;
+    }
+    match BufWriter::with_capacity(alloc, 0, writer) {
+        Ok(buffer) => buffer,
+        Err(_) => unreachable!(),
+    }
+}
+
+impl<W: Write + Drop> Write for Output<'_, W> {
+    ghost contents = { λ output. writer_contents W.contents output.buffer };
+
     fn write(&mut self, buf: &[u8]) -> io::Result<usize> {
-        match &mut self.to {
-            Target::AtOnce => io::writer(self.rt).write(buf),
-            Target::Buffered(buffer) => buffer.write(buf),
-        }
+        self.buffer.write(buf)
     }
 
-    /// Writes out what is in the buffer, or counts the reply that was written.
+    /// Writes out what is in the buffer, and counts a reply.
     fn flush(&mut self) -> io::Result<()> {
-        match &mut self.to {
-            Target::AtOnce => {
-                self.replies.add(1);
-                Ok(())
-            }
-            Target::Buffered(buffer) => buffer.flush(),
-        }
+        self.replies.add(1);
+        self.buffer.flush()
     }
 }

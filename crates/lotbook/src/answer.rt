@@ -1,12 +1,16 @@
 //! A call of the program answered: its action is served, and standard error says what there is to say of it.
 
 ghost use Rattle.std.specs.Prelude.{◌≡◌, None, false};
+ghost use Rattle.sqlite.specs.Held.{state};
+ghost use Rattle.lot_io.specs.Reader.{reader_of};
+ghost use Rattle.lot_call.specs.Looks.{IsLookedAt};
+ghost use Rattle.lotbook.specs.Answered.{IsAnswered, IsServed};
 
 use crate::keeper::{Keep, Keeper};
 use lot_book::Verdict;
 use lot_call::{
-    Call, Fate, FileKind, Watched, explain, say_aside, say_export_fault, say_fate, say_taken,
-    say_unwritten, sum_up,
+    Call, Crumbs, Fate, FileKind, Watched, explain, say_aside, say_export_fault, say_fate,
+    say_taken, say_unwritten, sum_up,
 };
 use lot_cli::{
     Action, AdoptFault, Aside, CommandFault, CountedWriter, CreateFault, DumpFault, Export,
@@ -15,18 +19,19 @@ use lot_cli::{
 };
 use lot_command::Key;
 use lot_completion::{Note, Watch};
-use lot_output::{Heard, Meter, Output, Record, Witness};
+use lot_output::{Heard, Meter, Output, Pace, Record, Witness};
 use lot_rounding::Asked;
 use lot_table::Queryable;
 use lot_verify::say_where;
 use sqlite::{Alter, Connection};
-use std::io::StdinLock;
+use std::io::{Read, Stdout, Write};
 
 /// Does what a call is for on the book that the connection leads to, with standard input, and says on
-/// standard error what there is to say of it.
+/// standard error what there is to say of it. The book is only looked at then.
 pub fn answer<S: Alter>(call: &Call<'_>, conn: Connection<S>) -> Served<S>
     requires outside { conn.in_transaction ≡ false }
     requires unlimited { conn.step_limit ≡ None }
+    ensures { IsAnswered (state S.Store) call.now.action.now conn result.conn result.status }
 {
     let alloc = call.rt.alloc();
     let keep = if call.is_quiet() {
@@ -35,15 +40,16 @@ pub fn answer<S: Alter>(call: &Call<'_>, conn: Connection<S>) -> Served<S>
         Keep::TakenBack
     };
     let mut reader = Keeper::new(alloc, call.rt.reader(), keep);
-    let mut writer = Witness::new(alloc, Output::new(call.rt, call.runs()), call.most());
+    let mut writer = Witness::new(alloc, output_of(call), call.most());
     let mut watched = Watched::of(call);
     let mut served = do_quietly(call, &mut reader, &mut writer, &mut watched, conn);
     reader.free_room();
-    writer.writer.end();
+    let (output, heard) = writer.into_parts();
+    output.end();
     speak(
         call,
         &reader.kept,
-        &writer.heard,
+        &heard,
         &mut watched,
         served.halt,
         &mut served.conn,
@@ -51,17 +57,29 @@ pub fn answer<S: Alter>(call: &Call<'_>, conn: Connection<S>) -> Served<S>
     served
 }
 
-/// Does what a call is for, and says nothing of it. All that `serve` says is left out here, so that
-/// its callers are proved without it.
-fn do_quietly<S: Alter>(
+/// Returns standard output, for what a call is for: the replies of a run are written out at once, and a meter counts them.
+fn output_of<'a>(call: &Call<'a>) -> Output<'a, Stdout> {
+    let pace = match call.runs() {
+        Some(_) => Pace::AtOnce,
+        None => Pace::Buffered,
+    };
+    let replies = Meter::of_replies(call.rt, call.runs());
+    Output::new(call.rt.alloc(), call.rt.stdout(), pace, replies)
+}
+
+/// Does what a call is for, and says nothing of it.
+fn do_quietly<R: Read, W: Write, S: Alter>(
     call: &Call<'_>,
-    reader: &mut Keeper<StdinLock<'_>>,
-    writer: &mut Witness<Output<'_>>,
+    reader: &mut Keeper<R>,
+    writer: &mut Witness<W>,
     watched: &mut Watched,
     conn: Connection<S>,
 ) -> Served<S>
     requires outside { conn.in_transaction ≡ false }
     requires unlimited { conn.step_limit ≡ None }
+    ensures { IsServed (state S.Store) (R.remaining (reader_of reader.old.reader))
+        (R.remaining (reader_of reader.new.reader))
+        call.now.action.now conn result.conn result.status result.halt }
 {
     let mut output = CountedWriter::new(writer);
     let mut watcher = Watcher {
@@ -87,7 +105,9 @@ fn speak<S: Alter>(
     watched: &mut Watched,
     halt: Option<Halt>,
     conn: &mut Connection<S>,
-) {
+)
+    ensures { IsLookedAt (state S.Store conn.old) (state S.Store conn.new) }
+{
     if call.is_quiet() {
         return;
     }
@@ -100,6 +120,22 @@ fn speak<S: Alter>(
         &mut watched.remembered,
         conn,
     );
+    conclude(call, read, heard, &watched.crumbs, halt, fate, conn);
+    say_unwritten(call, heard, fate);
+}
+
+/// Says how a call ended: why it ended before its first command, or what became of its commands.
+fn conclude<S: Alter>(
+    call: &Call<'_>,
+    read: &Record,
+    heard: &Heard,
+    crumbs: &Crumbs,
+    halt: Option<Halt>,
+    fate: Fate,
+    conn: &mut Connection<S>,
+)
+    ensures { IsLookedAt (state S.Store conn.old) (state S.Store conn.new) }
+{
     match (halt, fate) {
         (Some(Halt::Input(InputFault::Export(fault))), _) => say_faulty_export(call, read, fault),
         (Some(halt), _) => advise(call, call.path, halt, conn),
@@ -108,11 +144,10 @@ fn speak<S: Alter>(
             say_fate(call, fate, &heard.course);
         }
         (None, Fate::Kept) => {
-            say_taken(call, &watched.crumbs);
+            say_taken(call, crumbs);
             sum_up(call, &heard.course);
         }
     }
-    say_unwritten(call, heard, fate);
 }
 
 /// Says what is wrong with an export that was imported by a profile.
@@ -124,7 +159,9 @@ fn say_faulty_export(call: &Call<'_>, read: &Record, fault: ExportFault) {
 
 /// Says what helps where an action ended before its first command, since the file of that path holds no
 /// book, or holds one already, or a damaged one.
-pub fn advise<S: Alter>(call: &Call<'_>, path: &str, halt: Halt, conn: &mut Connection<S>) {
+pub fn advise<S: Alter>(call: &Call<'_>, path: &str, halt: Halt, conn: &mut Connection<S>)
+    ensures { IsLookedAt (state S.Store conn.old) (state S.Store conn.new) }
+{
     let rt = call.rt;
     let kind = match halt {
         Halt::Adopt(AdoptFault::OlderEdition) | Halt::Verify(VerifyFault::OlderEdition) => {

@@ -7,7 +7,7 @@ use Rattle.lot_cost.specs.declared.lot_key.LotKey.{LotKey}
 use Rattle.lot_cost.specs.declared.method.Method.{Method}
 use Rattle.lot_cost.specs.declared.method.Method.TheVariants.{Strict, Fifo, Lifo, Hifo}
 use Rattle.lot_inv.specs.declared.foremost.Foremost.{Foremost}
-use Rattle.lot_inv.specs.declared.foremost.Foremost.TheVariants.{Oldest, Newest, Highest}
+use Rattle.lot_inv.specs.declared.foremost.Foremost.TheVariants.{Oldest, Newest, Highest, OldestOpened, NewestOpened, HighestOpened}
 use Rattle.lot_inv.specs.declared.lot.Lot.{Lot}
 use Rattle.lot_inv.specs.Foremost.{AreLentOf, numbered}
 use Rattle.lot_inv.specs.Inventory.{held_in}
@@ -20,7 +20,7 @@ use Rattle.lot_booking.specs.OpeningOrder.{OpenedLot, by_key, by_numbers, highes
 use Rattle.lot_booking.specs.Order.{highest_first, newest_first, oldest_first}
 use Rattle.lot_booking.specs.Way.{Suffice, TakesLent, foremost_of}
 use Rattle.lot_booking.proofs.BookLemmas.{taken_strictly}
-use Rattle.lot_booking.proofs.ForemostLemmas.{GoesBy, highest_by_number, highest_opened_by_number, newest_by_day, newest_opened_by_day, oldest_by_day, oldest_opened_by_day, takes_of_all}
+use Rattle.lot_booking.proofs.ForemostLemmas.{GoesBy, highest_by_number, highest_opened_by_rank, newest_by_day, newest_opened_by_rank, oldest_by_day, oldest_opened_by_rank, takes_of_all}
 use Rattle.lot_booking.proofs.booking.take_by.Goals as goal
 
 abbrev Legs : Type 0
@@ -55,7 +55,7 @@ module _ (result : Result Legs AllocError) (lots : List Lot) (units : ℤ) where
   taken_strict edition taken =
       IfOk-weaker result _ _
       (λ (legs : Legs) by_front (opening : LotKey → ℕ) (all : List (LotKey × ℤ)) (distinct : HaveDistinctKeys all)
-      (suffice : Suffice Strict (length all) (held_in all) (unsigned_abs units)) (lent : AreLentOf (foremost_of Strict) (unsigned_abs units) (numbered opening all) lots).
+      (suffice : Suffice Strict (length all) (held_in all) (unsigned_abs units)) (lent : AreLentOf (foremost_of Strict edition) (unsigned_abs units) (numbered opening all) lots).
       taken_strictly all units legs.items (suffice.exact refl) (by_front opening all distinct lent))
       (lent_by Oldest (by_key oldest_first) oldest_by_day taken)
 
@@ -81,7 +81,7 @@ returns-in-Fifo-Second c =
     let lots = c.args.lots.items in
     taken_by call.result lots c.args.units Fifo c.args.selection.method Second c.args.selection.edition c.in-Fifo-Second.is-0 c.in-Fifo-Second.is-1
     (IfOk-weaker call.result _ _ (λ (legs : Legs) taken opening all distinct suffice lent. taken opening all distinct lent)
-    (lent_by call.result lots c.args.units Oldest oldest_opened_first oldest_opened_by_day call.ensures))
+    (lent_by call.result lots c.args.units OldestOpened oldest_opened_first oldest_opened_by_rank call.ensures))
 
 pub returns-in-Lifo-First : goal.returns-in-Lifo-First
 returns-in-Lifo-First c =
@@ -97,7 +97,7 @@ returns-in-Lifo-Second c =
     let lots = c.args.lots.items in
     taken_by call.result lots c.args.units Lifo c.args.selection.method Second c.args.selection.edition c.in-Lifo-Second.is-0 c.in-Lifo-Second.is-1
     (IfOk-weaker call.result _ _ (λ (legs : Legs) taken opening all distinct suffice lent. taken opening all distinct lent)
-    (lent_by call.result lots c.args.units Newest newest_opened_first newest_opened_by_day call.ensures))
+    (lent_by call.result lots c.args.units NewestOpened newest_opened_first newest_opened_by_rank call.ensures))
 
 pub returns-in-Hifo-First : goal.returns-in-Hifo-First
 returns-in-Hifo-First c =
@@ -113,4 +113,4 @@ returns-in-Hifo-Second c =
     let lots = c.args.lots.items in
     taken_by call.result lots c.args.units Hifo c.args.selection.method Second c.args.selection.edition c.in-Hifo-Second.is-0 c.in-Hifo-Second.is-1
     (IfOk-weaker call.result _ _ (λ (legs : Legs) taken opening all distinct suffice lent. taken opening all distinct lent)
-    (lent_by call.result lots c.args.units Highest highest_opened_first highest_opened_by_number call.ensures))
+    (lent_by call.result lots c.args.units HighestOpened highest_opened_first highest_opened_by_rank call.ensures))

@@ -13,17 +13,8 @@ returns-in-Import-clause-serves g c = rw c.in-Import.is c.import.ensures.imports
 pub returns-in-ImportBy-clause-serves : goal.returns-in-ImportBy-clause-serves
 returns-in-ImportBy-clause-serves g c = rw c.in-ImportBy.is c.import_by.ensures.imports
 
-pub returns-in-Holdings-clause-serves : goal.returns-in-Holdings-clause-serves
-returns-in-Holdings-clause-serves g c = rw c.in-Holdings.is c.write_report.ensures.reports
-
-pub returns-in-Gains-clause-serves : goal.returns-in-Gains-clause-serves
-returns-in-Gains-clause-serves g c = rw c.in-Gains.is c.write_report-in-Gains.ensures.reports
-
-pub returns-in-Journal-clause-serves : goal.returns-in-Journal-clause-serves
-returns-in-Journal-clause-serves g c = rw c.in-Journal.is c.write_report-in-Journal.ensures.reports
-
-pub returns-in-Dump-clause-serves : goal.returns-in-Dump-clause-serves
-returns-in-Dump-clause-serves g c = rw c.in-Dump.is c.write_report-in-Dump.ensures.reports
+pub returns-in-Report-clause-serves : goal.returns-in-Report-clause-serves
+returns-in-Report-clause-serves g c = rw c.in-Report.is c.write_report.ensures.reports
 
 pub returns-in-Restore-clause-serves : goal.returns-in-Restore-clause-serves
 returns-in-Restore-clause-serves g c = rw c.in-Restore.is c.restore.ensures.restores

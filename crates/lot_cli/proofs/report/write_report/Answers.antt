@@ -1,20 +1,20 @@
 use Rattle.std.proofs.Common.{subst, sym}
 use Rattle.sqlite.specs.Held.{state}
-use Rattle.lot_cli.specs.Reports.{Reports}
+use Rattle.lot_cli.specs.Reports.{Reports, written_for}
 use Rattle.lot_cli.proofs.ReportLemmas.{report_refused, reported}
 use Rattle.lot_cli.proofs.report.write_report.Goals as goal
 
 pub returns-in-Ok-clause-reports : goal.returns-in-Ok-clause-reports
 returns-in-Ok-clause-reports g c =
-    reported c.args.report (state g.S.Store c.args.conn) (state g.S.Store c.in-Ok.book.conn) (state g.S.Store c.write_report_of.result.conn) _ _
+    reported (written_for c.args.report.now) (state g.S.Store c.args.conn) (state g.S.Store c.in-Ok.book.conn) (state g.S.Store c.write_report_of.result.conn) _ _
     (record { before = g.W.CountedWrite.calls c.args.writer.now; after = g.W.CountedWrite.calls c.write_report_of.new.writer })
     (record { status = c.write_report_of.result.status; halt = c.write_report_of.result.halt })
     c.in-Ok.ensures.taken c.in-Ok.ensures.same c.in-Ok.ensures.crash_ok c.write_report_of.ensures.shows c.write_report_of.ensures.goes_on
 
 pub returns-in-Err-clause-reports : goal.returns-in-Err-clause-reports
 returns-in-Err-clause-reports g c =
-    subst (λ conn. Reports c.args.report (state g.S.Store c.args.conn) (state g.S.Store conn) (g.W.CountedWrite.contents c.args.writer.now) (g.W.CountedWrite.contents c.halted.new.writer) (record { before = g.W.CountedWrite.calls c.args.writer.now; after = g.W.CountedWrite.calls c.halted.new.writer }) (record { status = c.halted.result.status; halt = c.halted.result.halt }))
+    subst (λ conn. Reports (written_for c.args.report.now) (state g.S.Store c.args.conn) (state g.S.Store conn) (g.W.CountedWrite.contents c.args.writer.now) (g.W.CountedWrite.contents c.halted.new.writer) (record { before = g.W.CountedWrite.calls c.args.writer.now; after = g.W.CountedWrite.calls c.halted.new.writer }) (record { status = c.halted.result.status; halt = c.halted.result.halt }))
     (sym c.halted.ensures.same)
-    (report_refused c.args.report (state g.S.Store c.args.conn) (state g.S.Store c.in-Err.field-0.conn) _ _ (record { before = g.W.CountedWrite.calls c.args.writer.now; after = g.W.CountedWrite.calls c.halted.new.writer }) c.in-Err.field-0.fault (record { status = c.halted.result.status; halt = c.halted.result.halt })
+    (report_refused (written_for c.args.report.now) (state g.S.Store c.args.conn) (state g.S.Store c.in-Err.field-0.conn) _ _ (record { before = g.W.CountedWrite.calls c.args.writer.now; after = g.W.CountedWrite.calls c.halted.new.writer }) c.in-Err.field-0.fault (record { status = c.halted.result.status; halt = c.halted.result.halt })
     c.in-Err.ensures.tells_err c.in-Err.ensures.refused c.in-Err.ensures.handed_back c.in-Err.ensures.undone c.in-Err.ensures.crash_err
     c.halted.ensures.says)

@@ -3,8 +3,7 @@ use Rattle.sqlite.specs.Held.{state}
 use Rattle.lot_stream.specs.declared.status.Status.TheVariants.{Accepted}
 use Rattle.lot_cli.specs.Serve.{SaysVerified}
 use Rattle.lot_cli.proofs.HaltLemmas.{failed_before, said}
-use Rattle.lot_cli.specs.Reports.{ShowsBook, verified_line}
-use Rattle.lot_cli.specs.declared.report.Report.TheVariants as report
+use Rattle.lot_cli.specs.Reports.{ShowsBook, digest_writing, verified_line}
 use Rattle.lot_cli.proofs.VerificationLemmas.{verifies, verifies_digest, verifies_not}
 use Rattle.lot_cli.proofs.verification.verify.Goals as goal
 
@@ -20,11 +19,11 @@ returns-in-Verified-clause-verifies g c =
 
 pub returns-in-Digest-clause-verifies : goal.returns-in-Digest-clause-verifies
 returns-in-Digest-clause-verifies g c =
-    let shows = subst (λ conn. ShowsBook report.Digest (state g.S.Store conn) (state g.S.Store c.write_report_of.result.conn) (g.W.CountedWrite.contents c.args.writer.now) (g.W.CountedWrite.contents c.write_report_of.new.writer) (record { before = g.W.CountedWrite.calls c.args.writer.now; after = g.W.CountedWrite.calls c.write_report_of.new.writer }) c.write_report_of.result.status)
-    c.ready_over-book.ensures.0 c.write_report_of.ensures.shows in
+    let shows = subst (λ conn. ShowsBook digest_writing (state g.S.Store conn) (state g.S.Store c.write_digest.result.conn) (g.W.CountedWrite.contents c.args.writer.now) (g.W.CountedWrite.contents c.write_digest.new.writer) (record { before = g.W.CountedWrite.calls c.args.writer.now; after = g.W.CountedWrite.calls c.write_digest.new.writer }) c.write_digest.result.status)
+    c.ready_over-book.ensures.0 c.write_digest.ensures.shows in
     rw c.in-Digest.is
-    (verifies_digest (state g.S.Store c.args.conn) (state g.S.Store c.in-Ok.conn) (state g.S.Store c.write_report_of.result.conn) _ _ (record { before = g.W.CountedWrite.calls c.args.writer.now; after = g.W.CountedWrite.calls c.write_report_of.new.writer }) (record { status = c.write_report_of.result.status; halt = c.write_report_of.result.halt })
-    c.in-Ok.ensures.stands c.in-Ok.ensures.taken c.in-Ok.ensures.same c.in-Ok.ensures.crash_ok shows c.write_report_of.ensures.goes_on)
+    (verifies_digest (state g.S.Store c.args.conn) (state g.S.Store c.in-Ok.conn) (state g.S.Store c.write_digest.result.conn) _ _ (record { before = g.W.CountedWrite.calls c.args.writer.now; after = g.W.CountedWrite.calls c.write_digest.new.writer }) (record { status = c.write_digest.result.status; halt = c.write_digest.result.halt })
+    c.in-Ok.ensures.stands c.in-Ok.ensures.taken c.in-Ok.ensures.same c.in-Ok.ensures.crash_ok shows c.write_digest.ensures.goes_on)
 
 pub returns-in-Err-clause-verifies : goal.returns-in-Err-clause-verifies
 returns-in-Err-clause-verifies g c =

@@ -1,9 +1,9 @@
--- The word names one of the causes so far or of those that are left where it names one of all.
-use Rattle.std.proofs.Common.{◌≡◌, ◌||◌, drop}
-use Rattle.std.specs.List.{list_any}
-use Rattle.lot_explain.specs.Codes.{is_cause}
+-- The texts of those so far that the word names are written.
+use Rattle.std.proofs.Common.{take}
+use Rattle.std.specs.Io.KnownBytes.{Appends}
+use Rattle.lot_explain.specs.Explained.{cause_texts_of}
 use Rattle.lot_explain.proofs.explained.explain_causes.Given as goal
 
 abbrev pub invariant-loop-cause : goal.invariant-loop-cause
 invariant-loop-cause g l =
-    (l.names_one || list_any (is_cause l.word) (drop l.cause-index l.causes)) ≡ list_any (is_cause l.word) l.causes
+    Appends (g.W.Write.contents l.initial.writer) (g.W.Write.contents l.writer) (cause_texts_of l.word (take l.cause-index l.causes))

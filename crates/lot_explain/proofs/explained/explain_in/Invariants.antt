@@ -1,9 +1,9 @@
--- The word names one of the codes so far or of those that are left where it names one of the table.
-use Rattle.std.proofs.Common.{◌≡◌, ◌||◌, drop}
-use Rattle.std.specs.List.{list_any}
-use Rattle.lot_explain.specs.Codes.{is_named}
+-- The texts of those so far that the word names are written.
+use Rattle.std.proofs.Common.{take}
+use Rattle.std.specs.Io.KnownBytes.{Appends}
+use Rattle.lot_explain.specs.Explained.{texts_of}
 use Rattle.lot_explain.proofs.explained.explain_in.Given as goal
 
 abbrev pub invariant-loop-code : goal.invariant-loop-code
 invariant-loop-code g l =
-    (l.names_one || list_any (is_named l.word) (drop l.code-index l.table)) ≡ list_any (is_named l.word) l.table
+    Appends (g.W.Write.contents l.initial.writer) (g.W.Write.contents l.writer) (texts_of l.word (take l.code-index l.table))

@@ -5,7 +5,7 @@ use Rattle.lot_inv.specs.Foremost.{gone_through, is_past}
 use Rattle.lot_inv.specs.Holding.{listed, takeable_lots}
 use Rattle.lot_inv.specs.Inventory.{held_in, with_number}
 use Rattle.lot_inv.specs.Lot.{key_and_units}
-use Rattle.lot_inv.proofs.LentLemmas.{AreByDay, by_day-from_sorted, by_day_but, lent_all, lent_before, misfits_lent, same_sign_lent}
+use Rattle.lot_inv.proofs.LentLemmas.{AreByRank, by_rank-from_sorted, by_rank_but, lent_all, lent_before, misfits_lent, same_sign_lent, taken-turned}
 use Rattle.lot_inv.proofs.lots.Lots.by_day.Goals.{else-is_other_sign-via-then-is_other_sign+else-fits_at, else-is_other_sign-via-else-is_other_sign}
 use Rattle.lot_inv.proofs.lots.Lots.by_day.Goals as goal
 
@@ -19,9 +19,9 @@ loop-key-init c =
     record {
       all = ap (λ (ls : List Lot). ls ++ takeable_lots c.args.units spec behind) none
           ∙ ap (λ es. takeable_lots c.args.units spec (listed (gone_through foremost es))) rest;
-      by_day = subst (λ (ls : List Lot). AreByDay foremost (ls ++ behind)) (sym none)
-          (subst (λ es. AreByDay foremost (listed (gone_through foremost es))) (sym rest)
-          (by_day-from_sorted foremost c.args.self.now c.requires.days c.requires.sorted));
+      by_rank = subst (λ (ls : List Lot). AreByRank foremost (ls ++ behind)) (sym none)
+          (subst (λ es. AreByRank foremost (listed (gone_through foremost es))) (sym rest)
+          (by_rank-from_sorted foremost c.args.self.now c.requires.days c.requires.together c.requires.sorted));
       held = search rules;
     }
 
@@ -40,7 +40,7 @@ loop-key-preserved c =
     let so_far = c.loop-key.invariant in
     record {
       all = ap (λ ls. lots ++ ls) (sym (ap (takeable_lots units spec) steps ∙ passed)) ∙ so_far.all;
-      by_day = by_day_but c.args.foremost lots rest lot (subst (λ ls. AreByDay c.args.foremost (lots ++ ls)) steps so_far.by_day);
+      by_rank = by_rank_but c.args.foremost lots rest lot (subst (λ ls. AreByRank c.args.foremost (lots ++ ls)) steps so_far.by_rank);
       held = so_far.held;
     }
 
@@ -56,10 +56,12 @@ returns-then-is_past c =
     let none = c.if-left-eq0.true in
     let held = so_far.held in
     let enough : unsigned_abs units ≤ held_in (map key_and_units lots) = omega (arith, none, held) in
-    lent_before units spec c.args.foremost (unsigned_abs units) c.args.self.now lots lot rest
+    let entries = c.args.self.now in
+    lent_before units spec c.args.foremost (unsigned_abs units) (listed (gone_through c.args.foremost entries)) (takeable_lots units spec (listed entries)) lots
+    (taken-turned units spec c.args.foremost entries) lot rest
     (ap (λ ls. lots ++ takeable_lots units spec ls) (sym steps) ∙ so_far.all)
-    (subst (λ ls. AreByDay c.args.foremost (lots ++ ls)) steps so_far.by_day)
-    (ap (λ (ls : List Lot). is_past c.args.foremost ls lot.key) (sym c.deref.ensures.value) ∙ sym c.is_past.ensures ∙ c.if-is_past.true)
+    (subst (λ ls. AreByRank c.args.foremost (lots ++ ls)) steps so_far.by_rank)
+    ((λ i. is_past c.args.foremost (sym c.deref.ensures.value i) (sym c.lend.ensures i)) ∙ sym c.is_past.ensures ∙ c.if-is_past.true)
     enough
 
 pub returns : goal.returns
@@ -67,5 +69,7 @@ returns c =
     let spec = with_number c.args.number.now c.args.spec.now in
     let units = c.args.units in
     let lots = c.loop-key.lots.items in
-    lent_all units spec c.args.foremost (unsigned_abs units) c.args.self.now lots
+    let entries = c.args.self.now in
+    lent_all units spec c.args.foremost (unsigned_abs units) (listed (gone_through c.args.foremost entries)) (takeable_lots units spec (listed entries)) lots
+    (taken-turned units spec c.args.foremost entries)
     (ap (λ es. lots ++ takeable_lots units spec (listed es)) (sym c.in_default.ensures.none) ∙ c.loop-key.invariant.all)

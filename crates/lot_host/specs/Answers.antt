@@ -1,0 +1,39 @@
+-- The status of words that ask for nothing to be done.
+use Rattle.std.specs.Prelude.{◌≡◌, ◌≢◌, ◌⊎◌, ℕ, List, Option, None, Some}
+use Rattle.clap.specs.Words.{kind_of}
+use Rattle.clap.specs.declared.error.ErrorKind.{ErrorKind}
+use Rattle.clap.specs.declared.error.ErrorKind.TheVariants.{DisplayHelp, DisplayVersion}
+use Rattle.lot_stream.specs.Status.{code_of}
+use Rattle.lot_stream.specs.declared.status.Status.TheVariants.{Accepted, Stopped}
+use Rattle.lot_args.specs.declared.fault.WordsFault.{WordsFault}
+use Rattle.lot_args.specs.declared.fault.WordsFault.TheVariants.{BadValue, Memory, Misplaced, MissingOptions, Usage}
+
+-- the status of words that can't be used
+abbrev pub unusable : ℕ
+unusable = 2
+
+-- the status where memory ended, or something can't be opened or written
+abbrev pub stopped : ℕ
+stopped = code_of Stopped
+
+-- what was asked for is shown, or can't be written
+abbrev pub IsShown : ℕ → Type 0
+IsShown status = (status ≡ code_of Accepted) ⊎ (status ≡ stopped)
+
+-- The status of what `clap` tells: of help and of the version, which are shown, or of words that it refuses.
+pub record IsStatusOfKind (kind : ErrorKind) (status : ℕ) : Type 0 where
+  pub shown : (kind ≡ DisplayHelp) ⊎ (kind ≡ DisplayVersion) → IsShown status
+  pub refused : kind ≢ DisplayHelp → kind ≢ DisplayVersion → status ≡ unusable
+
+-- The status of words that ask for nothing to be done, by what is wrong with them. What is missing may take memory to say.
+abbrev pub IsStatusOf : WordsFault → ℕ → Type 0
+IsStatusOf (Usage error) status = IsStatusOfKind (kind_of error) status
+IsStatusOf (Misplaced option) status = status ≡ unusable
+IsStatusOf (MissingOptions needed) status = (status ≡ unusable) ⊎ (status ≡ stopped)
+IsStatusOf (BadValue bad) status = status ≡ unusable
+IsStatusOf Memory status = status ≡ stopped
+
+-- The status of a code that is explained, or of a word that names none. Without a word all codes are shown.
+abbrev pub IsTold : Option (List ℕ) → ℕ → Type 0
+IsTold None status = IsShown status
+IsTold (Some word) status = IsShown status ⊎ (status ≡ unusable)

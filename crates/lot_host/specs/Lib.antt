@@ -1,0 +1,4 @@
+pub mod Access
+pub mod Answers
+pub mod Done
+pub mod Run

@@ -1,0 +1,115 @@
+//! An action is done on the book that it names.
+
+ghost use Rattle.std.specs.Prelude.{◌≡◌, ◌⊎◌, IfErr, IfOk, None, Some};
+ghost use Rattle.lot_host.specs.Answers.{stopped};
+ghost use Rattle.lot_host.specs.Done.{ComesTo, ComesToOfNothing, ComesToOfPath, IsDone};
+
+use crate::access::{access_of, makes_file, old_of, path_of};
+use crate::host::{Host, Task};
+use lot_files::{Cause, Opened};
+use lot_stream::{REFUSED, STOPPED};
+
+/// Does an action on the book that it names, and returns the status of the program.
+///
+/// The book is opened before anything is read: to be written where the action changes it, or as a copy where nothing is to stay of
+/// that; to be read for a report. Where there is no such file, and the action makes none, it is done on an empty database; a check
+/// always is. Where a new book is to be compared with an old one, that one is taken up first.
+pub fn act<H: Host>(host: &H, task: &Task) -> u8
+    ensures { IsDone H.Host task.now.action task.now.effect result }
+{
+    let Some(path) = path_of(&task.action) else {
+        return match on_nothing(host, task, None) {
+            Ok(status) => status,
+            Err(cause) => refused(host, task, "", cause),
+        };
+    };
+    let path = match host.library_path(path) {
+        Ok(path) => path,
+        Err(cause) => return refused(host, task, path, cause),
+    };
+    let old = match old_of(&task.action) {
+        Some(old) => match host.take_up(task, old) {
+            Ok(old) => Some(old),
+            Err(status) => return status,
+        },
+        None => None,
+    };
+    match on_path(host, task, path.as_str(), old) {
+        Ok(status) => status,
+        Err(cause) => refused(host, task, path.as_str(), cause),
+    }
+}
+
+/// Says why a database can't be opened, and returns the status.
+fn refused<H: Host>(host: &H, task: &Task, path: &str, cause: Cause) -> u8
+    ensures { result ≡ stopped }
+{
+    host.say_unopened(task, path, cause);
+    STOPPED
+}
+
+/// Does the action of a task on an empty database, of which nothing stays.
+fn on_nothing<H: Host>(host: &H, task: &Task, old: Option<H::Old>) -> Result<u8, Cause>
+    ensures served { IfOk result (ComesToOfNothing H.Host task.now.action old) }
+    ensures fault { IfErr result (H.refuses None) }
+{
+    let empty = host.open_nothing()?;
+    Ok(on_copy(host, task, empty, old))
+}
+
+/// Does the action of a task on the database in the file of that path. Where there is no such file, and none is to be made, it is
+/// an empty database, of which nothing stays.
+fn on_path<H: Host>(host: &H, task: &Task, path: &str, old: Option<H::Old>) -> Result<u8, Cause>
+    ensures served { IfOk result
+        (ComesToOfPath H.Host task.now.action task.now.effect path.now old) }
+    ensures fault { IfErr result (λ cause. H.refuses (Some path.now) cause ⊎ H.refuses None cause) }
+{
+    host.ensure_openable(path)?;
+    if !makes_file(&task.action) && host.is_missing(path) {
+        return on_nothing(host, task, old);
+    }
+    match host.open(path, access_of(&task.action, task.effect))? {
+        Opened::File(file) => Ok(on_file(host, task, file, old)),
+        Opened::Copy(copy) => Ok(on_copy(host, task, copy, old)),
+    }
+}
+
+/// Does the action of a task on the database of a file, which is closed where that ran to its end. Commits are safe in the log
+/// beside the file, also where it can't be closed.
+fn on_file<H: Host>(host: &H, task: &Task, file: H::Database, old: Option<H::Old>) -> u8
+    requires { H.is_ready file }
+    ensures { ComesTo H.Host task.now.action old file result }
+{
+    let (status, left) = done_on(host, task, file, old);
+    if status <= REFUSED {
+        host.close(left);
+    }
+    status
+}
+
+/// Does the action of a task on a database of which nothing stays.
+fn on_copy<H: Host>(host: &H, task: &Task, copy: H::Database, old: Option<H::Old>) -> u8
+    requires { H.is_ready copy }
+    ensures { ComesTo H.Host task.now.action old copy result }
+{
+    let (status, _left) = done_on(host, task, copy, old);
+    status
+}
+
+/// Does the action of a task on a database, and compares the book there with an old one, where there is one and no fault was met.
+/// Returns the status, and the database.
+fn done_on<H: Host>(
+    host: &H,
+    task: &Task,
+    database: H::Database,
+    old: Option<H::Old>,
+) -> (u8, H::Database)
+    requires { H.is_ready database }
+    ensures { ComesTo H.Host task.now.action old database result.0 }
+{
+    let (status, left) = host.serve(task, database);
+    match old {
+        Some(old) if status <= REFUSED => host.compare(task, status, left, old),
+        _ => (status, left),
+    }
+}

@@ -1,0 +1,155 @@
+//! The host of a call: the files and the streams of a system, as far as a call needs them.
+
+ghost use Rattle.std.specs.Prelude.{◌≡◌, ◌≤◌, ℕ, List, Option, None, Some, IfErr, IfOk, IsOk, IsTrue, option_copied};
+ghost use Rattle.std.specs.String.{string_bytes};
+ghost use Rattle.lot_args.specs.declared.action.Action.{Action as ActionOf};
+ghost use Rattle.lot_files.specs.declared.cause.Cause.{Cause as CauseOf};
+ghost use Rattle.lot_files.specs.Path.{library_path};
+ghost use Rattle.lot_host.specs.Answers.{IsStatusOf};
+ghost use Rattle.lot_files.specs.Opened.{IsOpenedFor, IsSo};
+ghost use Rattle.lot_profile.specs.declared.profile.Profile.{Profile as ProfileOf};
+ghost use Rattle.lot_rounding.specs.declared.rounding.Rounding.{Rounding as RoundingOf};
+
+use lot_args::{Action, Effect, Notes, Request, WordsFault};
+use lot_files::{Access, Cause, Opened};
+use lot_profile::Profile;
+use lot_rounding::Rounding;
+
+/// An action that is to be done, what may come of it, and how much is said of it.
+#[derive(Drop)]
+pub struct Task {
+    pub action: Action,
+    pub effect: Effect,
+    pub notes: Notes,
+}
+
+/// The host of a call.
+///
+/// The ghost members are what a reader of `main` checks: which database is the one of a file, and what it is to do an action there.
+pub trait Host {
+    /// An opened database.
+    type Database: Drop;
+
+    /// A book that is only read, beside which a new one is made.
+    type Old: Drop;
+
+    // The database is the one in the file of that path: what is committed there stays in the file.
+    ghost is_in: { List ℕ → Self.Database → Type 0 };
+
+    // The database is a copy of the one in the file of that path: nothing of it stays.
+    ghost copies: { List ℕ → Self.Database → Type 0 };
+
+    // The database is an empty one, of which nothing stays.
+    ghost is_empty: { Self.Database → Type 0 };
+
+    // It is in no transaction, and nothing limits the steps of its statements.
+    ghost is_ready: { Self.Database → Type 0 };
+
+    // The file of that path, if there is one, may be opened as that of a book.
+    ghost is_openable: { List ℕ → Type 0 };
+
+    // There is no file of that path.
+    ghost lacks: { List ℕ → Type 0 };
+
+    // The database of that path, or the empty one, can't be opened for that cause.
+    ghost refuses: { Option (List ℕ) → CauseOf → Type 0 };
+
+    // The action is done on the first database. The number is its status, and the second database what is left.
+    ghost serves: { ActionOf → Self.Database → ℕ → Self.Database → Type 0 };
+
+    // It is the book in the file of that path.
+    ghost is_old: { List ℕ → Self.Old → Type 0 };
+
+    // The book in the file of that path can't be taken up. The number is the status of that fault.
+    ghost refuses_old: { List ℕ → ℕ → Type 0 };
+
+    // The book in a database, which was made with the first status, is compared with an old one. The second number is the status then.
+    ghost compares: { ℕ → Self.Database → Self.Old → ℕ → Type 0 };
+
+    // The file of that path has the profile, which has the crumbs go there.
+    ghost has_profile: { List ℕ → ProfileOf → Option RoundingOf → Type 0 };
+
+    // The file of that path has no profile. The number is the status of that fault.
+    ghost refuses_profile: { List ℕ → ℕ → Type 0 };
+
+    // What an export comes to by a profile is shown with that status.
+    ghost shows: { ProfileOf → ℕ → Type 0 };
+
+    // A code, or without one each, is explained with that status.
+    ghost tells: { Option (List ℕ) → ℕ → Type 0 };
+
+    /// Returns the path by which the library of the database opens the file of that path.
+    fn library_path(&self, path: &str) -> Result<String, Cause>
+        ensures named { IfOk result (λ text. string_bytes text ≡ library_path path.now) }
+        ensures fault { IfErr result (refuses (Some (library_path path.now))) };
+
+    /// Tests that the file of that path, if there is one, may be opened as that of a book.
+    fn ensure_openable(&self, path: &str) -> Result<(), Cause>
+        ensures openable { IsOk result → is_openable path.now }
+        ensures fault { IfErr result (refuses (Some path.now)) };
+
+    /// Returns whether there is no file of that path in a folder that is there.
+    fn is_missing(&self, path: &str) -> bool
+        ensures { IsTrue result → lacks path.now };
+
+    /// Opens the database in the file of that path.
+    fn open(&self, path: &str, access: Access) -> Result<Opened<Self::Database>, Cause>
+        requires { is_openable path.now }
+        ensures opened { IfOk result (IsOpenedFor is_in copies access path.now) }
+        ensures ready { IfOk result (IsSo is_ready) }
+        ensures fault { IfErr result (refuses (Some path.now)) };
+
+    /// Opens an empty database, of which nothing stays.
+    fn open_nothing(&self) -> Result<Self::Database, Cause>
+        ensures empty { IfOk result is_empty }
+        ensures ready { IfOk result is_ready }
+        ensures fault { IfErr result (refuses None) };
+
+    /// Does the action of a task on a database, and returns its status and the database.
+    fn serve(&self, task: &Task, database: Self::Database) -> (u8, Self::Database)
+        requires { is_ready database }
+        ensures { serves task.now.action database result.0 result.1 };
+
+    /// Closes the database of a file. What was committed is there in either case.
+    fn close(&self, database: Self::Database);
+
+    /// Takes up the book of that path, to be read. The error is the status of the program: why it can't is said.
+    fn take_up(&self, task: &Task, path: &str) -> Result<Self::Old, u8>
+        ensures old { IfOk result (is_old path.now) }
+        ensures fault { IfErr result (refuses_old path.now) };
+
+    /// Says how the book in a database, which was made with that status, differs from an old one. Returns the status then, and the
+    /// database.
+    fn compare(
+        &self,
+        task: &Task,
+        status: u8,
+        database: Self::Database,
+        old: Self::Old,
+    ) -> (u8, Self::Database)
+        requires { status ≤ 1 }
+        ensures { compares status database old result.0 };
+
+    /// Says why the database of that path can't be opened.
+    fn say_unopened(&self, task: &Task, path: &str, cause: Cause);
+
+    /// Reads the profile in the file of that path. The error is the status of the program: why there is none is said.
+    fn load(&self, path: &str) -> Result<(Profile, Option<Rounding>), u8>
+        ensures loaded { IfOk result (λ loaded. has_profile path.now loaded.0 loaded.1) }
+        ensures fault { IfErr result (refuses_profile path.now) };
+
+    /// Shows what an export comes to by a profile, and returns the status.
+    fn show(&self, profile: &Profile, notes: Notes) -> u8
+        ensures { shows profile.now result };
+
+    /// Tells what a code means, or without one what each does, and returns the status.
+    fn tell(&self, code: Option<&str>) -> u8
+        ensures { tells (option_copied code.entry) result };
+
+    /// Warns of words that may have been meant otherwise than they are taken.
+    fn warn(&self, words: &[String], request: &Request);
+
+    /// Says what is wrong with words, or shows the help or the version that they ask for. Returns the status.
+    fn answer(&self, words: &[String], fault: &WordsFault) -> u8
+        ensures { IsStatusOf fault.now result };
+}

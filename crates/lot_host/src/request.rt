@@ -1,0 +1,80 @@
+//! What the arguments of the program ask for is done.
+
+ghost use Rattle.std.specs.Prelude.{◌≡◌, ◌⊎◌, map};
+ghost use Rattle.std.specs.String.{string_bytes};
+ghost use Rattle.lot_host.specs.Run.{IsImported, IsMet, IsRun, IsShownBy};
+
+use crate::action::act;
+use crate::host::{Host, Task};
+use lot_args::{Action, AskedImport, Effect, Notes, Request, parse_words};
+use std::alloc::Global;
+
+/// Does what arguments ask for, of which the first is the program's name, and returns the status of the program. Where they can't
+/// be used, or ask for help, that is said.
+pub fn run<H: Host>(host: &H, alloc: Global, words: &[String]) -> u8
+    ensures { IsRun H.Host (map string_bytes words.now) result }
+{
+    match parse_words(alloc, words) {
+        Ok(request) => {
+            host.warn(words, &request);
+            meet(host, request)
+        }
+        Err(fault) => host.answer(words, &fault),
+    }
+}
+
+/// Does what is asked for, and returns the status of the program.
+fn meet<H: Host>(host: &H, request: Request) -> u8
+    ensures { IsMet H.Host request result }
+{
+    match request {
+        Request::Act {
+            action,
+            effect,
+            notes,
+        } => act(
+            host,
+            &Task {
+                action,
+                effect,
+                notes,
+            },
+        ),
+        Request::Import {
+            profile,
+            import,
+            effect,
+            notes,
+        } => import_by(host, profile.as_str(), import, effect, notes),
+        Request::Show { profile, notes } => show_by(host, profile.as_str(), notes),
+        Request::Explain { code } => host.tell(code.as_deref()),
+    }
+}
+
+/// Imports by the profile in the file of that path, and returns the status of the program.
+fn import_by<H: Host>(host: &H, path: &str, import: AskedImport, effect: Effect, notes: Notes) -> u8
+    ensures { H.refuses_profile path.now result
+        ⊎ IsImported H.Host path.now import effect result }
+{
+    match host.load(path) {
+        Ok((profile, rounding)) => act(
+            host,
+            &Task {
+                action: Action::ImportBy(import.with(profile, rounding)),
+                effect,
+                notes,
+            },
+        ),
+        Err(status) => status,
+    }
+}
+
+/// Shows what an export comes to by the profile in the file of that path, and returns the status of the program.
+fn show_by<H: Host>(host: &H, path: &str, notes: Notes) -> u8
+    ensures { H.refuses_profile path.now result ⊎ IsShownBy H.Host path.now result }
+{
+    match host.load(path) {
+        Ok((profile, _)) => host.show(&profile, notes),
+        Err(status) => status,
+    }
+}

@@ -1,0 +1,2 @@
+mod DateLemmas
+mod OrderLemmas

@@ -1,0 +1,5 @@
+pub mod InsertLemmas
+pub mod SumLemmas
+mod RowLemmas
+mod TextLemmas
+pub mod LawLemmas

@@ -1,0 +1,3 @@
+pub mod Lots
+pub mod Rows
+pub mod Table
