@@ -124,7 +124,6 @@ run_python tests/random/reports.py "$program" "$scratch"
 fresh
 for day in 2020-02-30 2020-13-01 2021-02-29 0000-01-01 20-1-1 20200101 2020-01-01x x ''; do
     unusable "fault U2 BadValue --day" holdings --book "$book" "--day=$day"
-    unusable "fault U2 BadValue --as-of" holdings --book "$book" "--as-of=$day"
     unusable "fault U2 BadValue --first" gains --book "$book" "--first=$day"
     unusable "fault U2 BadValue --last" gains --book "$book" --first 2020-01-01 "--last=$day"
 done
@@ -136,7 +135,6 @@ unusable "--day" journal --book "$book" --day 2020-01-01
 unusable "--batch" journal --book "$book" --batch a
 unusable "--day" holdings --book "$book" --day
 unusable "--day" holdings --book "$book" --day 2020-01-01 --day 2020-01-02
-unusable "--as-of" holdings --book "$book" --as-of 2020-01-01 --as-of 2020-01-02
 for word in holdings gains journal; do
     run "$word" --help </dev/null
     if ((status == 0)) && [[ ! -s $scratch/err ]] && grep -qF -- "lotbook $word --book" "$scratch/out"; then
@@ -148,7 +146,7 @@ done
 
 # ---- files that are no book
 
-for word in holdings "holdings --day 2020-01-01" "holdings --as-of 2020-01-01" gains journal; do
+for word in holdings "holdings --day 2020-01-01" gains journal; do
     read -ra words <<<"$word"
     missing=$scratch/missing.book
     prints "$word of a missing file" 4 "fault S1 NotABook" "${words[@]}" --book "$missing" </dev/null
@@ -194,7 +192,7 @@ trades 6000 4 >"$scratch/many"
 
 # ---- output that can't be written
 
-for word in holdings "holdings --day 2020-12-31" "holdings --as-of 2020-12-31" gains journal; do
+for word in holdings "holdings --day 2020-12-31" gains journal; do
     read -ra words <<<"$word"
     cut_short "$word" "1 10 4097" "${words[@]}" --book "$book"
 done

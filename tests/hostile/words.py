@@ -28,15 +28,8 @@ OPTIONS = {
         "--book": "f", "--batch": "a", "--invest": "Assets:A", "--cash": "Assets:B", "--fees": "Expenses:F", "--gains": "Income:G",
         "--from": "1",
     },
-    "holdings": {"--book": "f", "--as-of": "2020-01-01", "--day": "2020-01-01", "--format": "csv"},
+    "holdings": {"--book": "f", "--day": "2020-01-01", "--format": "csv"},
     "gains": {"--book": "f", "--first": "2020-01-01", "--last": "2020-01-01", "--by": "year,term", "--format": "text"},
-    "register": {
-        "--book": "f", "--account": "Assets:", "--commodity": "USD", "--first": "2020-01-01", "--last": "2020-01-01", "--format": "csv",
-    },
-    "activity": {
-        "--book": "f", "--account": "Income:", "--first": "2020-01-01", "--last": "2020-01-01", "--by": "month", "--format": "csv",
-    },
-    "reconcile": {"--book": "f", "--account": "Assets:Cash", "--as-of": "2020-01-01", "--format": "csv"},
     "journal": {"--book": "f"},
     "dump": {"--book": "f"},
     "restore": {"--book": "f"},
@@ -46,7 +39,7 @@ OPTIONS = {
 HEADER = b"ref,date,action,symbol,units,price,currency,fee\n"
 REQUIRED = ("--book", "--batch", "--invest", "--cash", "--fees", "--gains")
 # Values outside each option's rule, of which the program itself says which option it is: `clap` reads the value of --from.
-BAD = {"--batch": "/", "--invest": "A", "--cash": "A", "--fees": "A", "--gains": "A", "--account": "A", "--commodity": "a", "--day": "x", "--as-of": "x", "--first": "x", "--last": "x", "--by": "x", "--format": "x"}
+BAD = {"--batch": "/", "--invest": "A", "--cash": "A", "--fees": "A", "--gains": "A", "--day": "x", "--first": "x", "--last": "x", "--by": "x", "--format": "x"}
 
 
 def words_of_books(program):

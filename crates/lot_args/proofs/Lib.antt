@@ -1,4 +1,3 @@
-mod AccountLemmas
 mod HelpLemmas
 mod ProgramLemmas
 mod RequiredLemmas

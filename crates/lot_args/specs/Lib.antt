@@ -7,7 +7,6 @@ pub mod Program
 pub mod Required
 pub mod Table
 pub mod Keys
-pub mod Activity
 pub mod Options
 pub mod Faults
 pub mod Words

@@ -26,8 +26,7 @@ mod without;
 mod words;
 
 pub use action::{
-    Action, AskedImport, Format, Import, ImportBy, Keeping, Post, Reconcile, Report, Restore,
-    Saying,
+    Action, AskedImport, Format, Import, ImportBy, Keeping, Post, Report, Restore, Saying,
 };
 pub use batch::Batch;
 pub use fault::{BadOption, Needed, WordsFault};

@@ -3,7 +3,6 @@ pub mod CsvLemmas
 pub mod FeedLemmas
 pub mod GivenLemmas
 pub mod HoldingLemmas
-mod ListedLemmas
 pub mod JournalLemmas
 pub mod PriceLemmas
 pub mod ReadLemmas

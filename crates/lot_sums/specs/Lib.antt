@@ -1,5 +1,2 @@
-pub mod Activity
-pub mod GainsBy
 pub mod Gather
-pub mod Held
-pub mod Reconciliation
+pub mod GainsBy

@@ -1,4 +1,4 @@
-//! What takes rows and adds them up, and tables that are written once all are taken.
+//! A table that takes rows, and adds them up.
 
 ghost use Rattle.std.specs.Prelude.{◌∷◌, ◌++◌, [], Bool, IsErrOf, List, OnOk, ℕ};
 ghost use Rattle.lot_io.specs.Writes.{HasFailed, NoneFailed};
@@ -8,12 +8,12 @@ ghost use Rattle.lot_tally.specs.Rows.{Adds};
 use lot_io::CountedWrite;
 use lot_report::{PrintFault, ReportFault};
 
-/// What takes rows, and adds them up.
+/// A table that takes rows, and adds them up.
 pub trait Tally<Row> {
     // What is asked for.
     ghost Terms: { Type 0 };
 
-    // What a row tells it.
+    // What a row tells the table.
     ghost Told: { Type 0 };
 
     ghost told: { Row → Told };
@@ -21,10 +21,10 @@ pub trait Tally<Row> {
     // Whether all sums stay in their range with a row behind others.
     ghost fits: { Terms → List Told → Told → Bool };
 
-    // It has taken these rows and no other.
+    // The table has taken these rows and no other.
     ghost HasTaken: { Terms → List Told → Self → Type 0 };
 
-    // The lines of the table of these rows, where it is written as a table.
+    // The lines of the table of these rows.
     ghost AreLines: { Terms → List Told → List (List ℕ) → Type 0 };
 
     /// Takes one more row. The error is `Range` where a sum leaves its range, or `Memory`.
@@ -32,16 +32,12 @@ pub trait Tally<Row> {
         ensures { (terms : Terms) (rows : List Told) → HasTaken terms rows self.old
             → Adds (fits terms rows (told row))
             (HasTaken terms (rows ++ told row ∷ []) self.new) result };
-}
 
-/// A table that takes rows, adds them up, and is written.
-pub trait Table<Row>: Tally<Row> {
     /// Writes the table. Where memory ends, whole lines are written, but not all. Where the writer fails, a prefix of the lines is
     /// written, but not all of them.
     fn print<W: CountedWrite>(&self, writer: &mut W) -> Result<(), PrintFault>
-        ensures lines { (terms : Self.Terms) (rows : List Self.Told)
-            → Self.HasTaken terms rows self.now
-            → (lines : List (List ℕ)) × Self.AreLines terms rows lines
+        ensures lines { (terms : Terms) (rows : List Told) → HasTaken terms rows self.now
+            → (lines : List (List ℕ)) × AreLines terms rows lines
             × WritesEach (λ text. text) lines (W.contents writer.old) (W.contents writer.new)
             result }
         ensures cause { IsErrOf result PrintFault.Write → HasFailed (W.calls writer.new) }

@@ -100,11 +100,10 @@ $ lotbook holdings --book family.book
         code: "P1",
         name: "Range",
         brief: "a total is out of range",
-        rule: "A total of a report is out of the range of its numbers, or a position is at the end of \
-            a past day or behind a leg of a register.",
+        rule: "A total of a report is out of the range of its numbers.",
         examples: Examples::Absent,
         help: "Ask for fewer gains, with --first and --last, or for a table, which has no totals, with \
-            --format csv; of a past day, for another day.",
+            --format csv.",
         page: "docs/RULES.md, Numbers",
     },
     Code {

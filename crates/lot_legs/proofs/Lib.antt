@@ -1,7 +1,0 @@
-pub mod BookLemmas
-pub mod LookLemmas
-pub mod OrderLemmas
-pub mod PlaceLemmas
-pub mod RowLemmas
-pub mod SumLemmas
-pub mod TextLemmas

@@ -1,3 +1,0 @@
-pub mod Days
-pub mod Legs
-pub mod Place

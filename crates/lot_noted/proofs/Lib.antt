@@ -1,5 +1,0 @@
-pub mod BareLemmas
-pub mod DayLemmas
-pub mod HeadLemmas
-pub mod KeyLemmas
-pub mod SumLemmas

@@ -1,4 +1,0 @@
-pub mod SumLemmas
-pub mod KeepLemmas
-pub mod RowLemmas
-pub mod LawLemmas

@@ -1,5 +1,0 @@
-mod BalanceLemmas
-mod FindLemmas
-mod LawLemmas
-mod TableLemmas
-mod TextLemmas

@@ -1,3 +1,0 @@
-pub mod LeftLemmas
-pub mod RowLemmas
-pub mod TextLemmas

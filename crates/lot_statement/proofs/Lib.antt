@@ -1,3 +1,0 @@
-mod HeaderLemmas
-pub mod LineLemmas
-mod StatementLemmas
