@@ -5,8 +5,8 @@
 The plain records are written from docs/FORMATS.md and docs/RULES.md alone, over the entries of the plain judge of tests/random/.
 Each ledger is posted to a new book; then its holdings, with and without days, and its gains, whole and in ranges, are asked for as
 CSV. What is printed has to be what Python's `csv` writes of the plain records, byte for byte, and to read back as they are. Of the
-same gains as text, each sale has to be what its records add up to, exactly; and so has each row of a table by keys. A case is the ledgers of a hundred seeds, or a kind of
-record, which has to occur. A difference goes to standard error, with its seed.
+same gains as text, each sale has to be what its records add up to, exactly; and so has each row of a table by keys. A case is the
+ledgers of a hundred seeds, or a kind of record, which has to occur. A difference goes to standard error, with its seed.
 """
 
 import collections
