@@ -1,6 +1,7 @@
 #!/usr/bin/env bash
 # What a row of each report costs, and how that grows with the entries of the book: time by the clock, and the most memory, both
-# without those of a call that opens the book and does nothing else. Of interest are the ratios, not the times of this machine.
+# without those of a call that opens the book and does nothing else. Then each report as a whole call, in parts of `holdings` and of `gains`, by
+# instructions. Of interest are the ratios, not the times of this machine.
 source "$(dirname "$(readlink -f "${BASH_SOURCE[0]}")")/lib/runs.sh"
 in_memory # a report only reads
 
@@ -58,12 +59,36 @@ table() {
     done
 }
 
+# beside BOOK: a line for each report of the book: what the whole call takes, its opening with it, and in parts of `holdings` and of `gains`. By
+# instructions, or without valgrind by microseconds.
+beside() {
+    local report words taken of_holdings="" of_gains=""
+    printf 'commodity,units\nUSD,0\n' >"$scratch/statement.csv"
+    printf '%-38s %15s %9s %9s\n' report taken holdings gains
+    for report in holdings gains "holdings --as-of 2020-01-02" "holdings --as-of 2020-01-02 --format csv" "gains --by year" "gains --by commodity" \
+        "register --account Assets:Broker" "register --account Assets:" "register --account Assets: --format csv" "activity --by year" \
+        "activity --by month --format csv" "reconcile --account Assets:"; do
+        read -ra words <<<"$report"
+        taken=$(count "$scratch/statement.csv" "${words[@]}" --book "$1")
+        if [[ $taken == - ]]; then taken=$(micros "$scratch/statement.csv" 5 "${words[@]}" --book "$1"); fi
+        case $report in
+            holdings) of_holdings=$taken ;;
+            gains) of_gains=$taken ;;
+        esac
+        printf '%-38s %15s %9s %9s\n' "$report" "$taken" "$(ratio "$taken" "$of_holdings")" "$(ratio "$taken" "$of_gains")"
+    done
+}
+
 echo "books of so many entries: rows of the report in a millisecond, microseconds for a row and their ratio, and memory"
 size=entries most_rows=100000
 for entries in 1000 10000 100000; do
     thirds "$((entries - 3 - entries / 31))" prices | made "$scratch/$entries.book"
 done
 table "$scratch"/{1000,10000,100000}.book
+
+echo
+echo "the book of 100,000 entries: each report as a whole, beside holdings and gains"
+beside "$scratch/100000.book"
 
 echo
 echo "an account with so many lots of one commodity, and a sale of as many legs"

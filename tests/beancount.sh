@@ -4,6 +4,7 @@
 # that it is skipped, and its last line is `0 passed, 0 failed`. Each text of tests/cases/ and of examples/ that has no fault, the texts
 # of each session of tests/reports/, a book of 1,000 trades, and years with crumbs, which an account takes (tests/rounding/made.py), are
 # posted, and the journal is read as it stands, without a tolerance. Left out are books with HIFO, which Beancount 2 doesn't know; tests/beancount.differs names the journals that it judges otherwise, with the reason.
+# Of the sessions, the trades and the years what was held at the end of a day in the middle is asked of `bean-query`, too, where the machine has it.
 source "$(dirname "$(readlink -f "${BASH_SOURCE[0]}")")/lib/books.sh"
 in_memory
 
@@ -45,6 +46,15 @@ keep() {
     mkdir -p "$journals/${1%/*}"
     mv "$scratch/journal" "$journals/$1.journal"
     "$program" holdings --book "$book" </dev/null >"$journals/$1.holdings" || fail "$1" "it has no holdings"
+    if [[ $1 != tests/cases/* && $1 != examples/* ]]; then past "$journals/$1"; fi
+}
+# past NAME: keeps what the book held at the end of the day in the middle of those of its transactions, where it has some and was in range then.
+past() {
+    local days
+    mapfile -t days < <(grep -oE '^[0-9]{4}-[0-9]{2}-[0-9]{2} [*!]' "$1.journal" | cut -c 1-10 | sort -u)
+    if ((${#days[@]} == 0)); then return; fi
+    echo "${days[(${#days[@]} - 1) / 2]}" >"$1.day"
+    "$program" holdings --book "$book" --as-of "$(<"$1.day")" --format csv </dev/null >"$1.past" 2>/dev/null || rm "$1.past"
 }
 while IFS= read -r ledger; do
     name=${ledger#"$root/"} name=${name%.ledger}
@@ -93,6 +103,13 @@ for seed in "${years[@]}"; do
     done
 done
 run_python tests/lib/by_beancount.py "$journals" "$root/tests/beancount.differs"
+
+# What was held at the end of a past day.
+if command -v bean-query >/dev/null; then
+    run_python tests/lib/by_bean_query.py "$journals" "$root/tests/beancount.differs" "$scratch"
+else
+    echo "skipped: there is no command 'bean-query' on this machine to ask for a past day"
+fi
 
 # The command itself, on one of them.
 if command -v bean-check >/dev/null; then

@@ -101,7 +101,10 @@ for word in $words; do
                 offers "$word $option" "$(options_in_help "$word")" "$word" "$option" ""
                 ;;
             --format) offers "$word $option" $'csv\ntext' "$word" "$option" "" ;;
-            --by) offers "$word $option" $'account\ncommodity\nterm\nyear' "$word" "$option" "" ;;
+            --by)
+                if [[ $word == activity ]]; then choices=$'month\nquarter\nyear'; else choices=$'account\ncommodity\nterm\nyear'; fi
+                offers "$word $option" "$choices" "$word" "$option" ""
+                ;;
             *) offers "$word $option" "" "$word" "$option" "" ;;
         esac
     done

@@ -8,6 +8,7 @@ need_program
 
 book=$scratch/family.book
 columns=entry,posting,account,commodity,units,acquired,sold,days_held,label,unit_cost,currency,proceeds,cost,gain,term
+of_register=day,entry,posting,account,commodity,units,acquired,label,unit_cost,currency,left,narration
 
 # written NAME STATUS WORDS..: the table that the words ask for is what stands on this call's input.
 written() {
@@ -26,6 +27,8 @@ new_book "$book"
 for value in CSV tsv '' 'csv ' textcsv; do
     unusable --format holdings --book "$book" "--format=$value"
     unusable --format gains --book "$book" "--format=$value"
+    unusable --format register --account Assets: --book "$book" "--format=$value"
+    unusable --format activity --book "$book" "--format=$value"
 done
 unusable --format gains --book "$book" --format
 unusable --format gains --book "$book" --format csv --format csv
@@ -35,7 +38,9 @@ unusable --format journal --book "$book" --format csv
 
 written "gains of an empty book" 0 gains <<<"$columns"
 written "holdings of an empty book" 0 holdings <<<"account,commodity,units,acquired,label,unit_cost,currency,cost"
-for word in holdings "holdings --day 2020-01-01" gains; do
+written "register of an empty book" 0 register --account Assets: <<<"$of_register"
+written "activity of an empty book" 0 activity <<<"period,account,commodity,in,out"
+for word in holdings "holdings --day 2020-01-01" gains "register --account Assets:" activity; do
     read -ra words <<<"$word"
     run "${words[@]}" --book "$scratch/missing.book" --format csv </dev/null
     answers "$word of a missing file" 4 "fault S1 NotABook"
@@ -90,6 +95,11 @@ damaged() {
 damaged "a second sale of no kind" "UPDATE sale SET kind = 3 WHERE entry = 6" gains <<<"$columns"$'\n'"$sold"
 damaged "a first sale of no kind" "UPDATE sale SET kind = 3 WHERE entry = 5" gains </dev/null
 damaged "a second sale without its legs" "DELETE FROM leg WHERE entry = 6 AND posting = 1" gains <<<"$columns"$'\n'"$sold"
+damaged "an entry of no day" "UPDATE entry SET body = 'x' || body WHERE number = 6" register --account Assets: </dev/null
+damaged "a last entry of no command" "UPDATE entry SET body = replace(body, '\"', '') WHERE number = 6" register --account Assets:Broker \
+    <<<"$of_register"$'\n'"2020-01-01,4,1,Assets:Broker,HOOL,10,2020-01-01,,100,USD,10,Ten at 100"$'\n'"2020-02-15,5,1,Assets:Broker,HOOL,-3,2020-01-01,,100,USD,7,"
+damaged "an entry without its day" "UPDATE entry SET body = 'x' || body WHERE number = 5" activity </dev/null
+damaged "legs of no entry" "DELETE FROM entry WHERE number = 4" activity </dev/null
 damaged "a lot of no day" "UPDATE lot SET cost_day = 99999999" holdings </dev/null
 damaged "a price of no day" "UPDATE price SET day = 99999999" holdings --day 9999-12-31 </dev/null
 written "two sales after that" 0 gains <<<"$columns"$'\n'"$sold"$'\n'"$later"
@@ -131,8 +141,12 @@ fi
 
 # ---- output that can't be written
 
-for word in "holdings" "holdings --day 2020-12-31" gains; do
+for word in "holdings" "holdings --day 2020-12-31" "holdings --as-of 2020-12-31" gains; do
     read -ra words <<<"$word --format csv"
     cut_short "$word" "1 70 4097" "${words[@]}" --book "$book"
 done
+cut_short register "1 90 4097" register --account Assets: --format csv --book "$book"
+commodities 2000 | book_of "$book" a || fail "many commodities" "$(grep -m 1 -v accepted "$scratch/posted")"
+cut_short "gains by keys" "1 40 4097" gains --by account,commodity --format csv --book "$book"
+cut_short activity "1 40 4097" activity --format csv --book "$book"
 finish

@@ -117,6 +117,9 @@ unusable "--from" post --book f --batch a/b --from 0
 unusable "-a" post --book f --batch -a
 unusable "--book" journal --book f --book g
 unusable "UTF-8" post --book f --batch $'\xff'
+unusable "fault U2 BadValue --as-of" holdings --book f --as-of 2020-02-30
+unusable "fault U2 BadValue --as-of" holdings --book f --day x --as-of x
+unusable "--as-of" gains --book f --as-of 2020-01-01
 unusable "fault U2 BadValue --day" holdings --book f --day 2020-02-30
 unusable "\"2020-02-30\" isn't a day" holdings --book f --day 2020-02-30
 unusable "fault U2 BadValue --first" gains --book f --last x --first ''
@@ -125,8 +128,30 @@ for keys in years year, ,year 'year, term' '' Year 'year term' year,,term; do un
 unusable "fault U2 BadValue --first" gains --book f --by x --first x
 unusable "fault U2 BadValue --by" gains --book f --format x --by x
 unusable "--by" holdings --book f --by year
-for word in holdings gains; do
-    for format in json CSV ''; do unusable "fault U2 BadValue --format" "$word" --book f --format "$format"; done
+for length in years '' Year year,month week; do unusable "fault U2 BadValue --by" activity --book f --by "$length"; done
+for account in '' : A Assets Asets: Assets:: :Assets: Assets:cash: Assets:Cash:: 'Assets: '; do
+    unusable "fault U2 BadValue --account" activity --book f --account "$account"
+done
+unusable "fault U2 BadValue --account" activity --book f --format x --by x --last x --first x --account x
+unusable "fault U2 BadValue --first" activity --book f --format x --by x --last x --first x
+unusable "fault U2 BadValue --last" activity --book f --format x --by x --last x
+unusable "fault U2 BadValue --by" activity --book f --format x --by x
+unusable "--account" register --book f
+unusable "fault U2 BadValue --account" register --book f --account Assets --commodity x --first x --last x --format x
+for commodity in '' usd 'USD ' US- ABCDEFGHIJKLMNOPQRSTUVWXY; do
+    unusable "fault U2 BadValue --commodity" register --book f --account Assets: --commodity "$commodity" --first x --last x --format x
+done
+unusable "fault U2 BadValue --first" register --book f --account Assets: --first x --last x --format x
+unusable "fault U2 BadValue --last" register --book f --account Assets: --last 2024-02-30 --format x
+unusable "--commodity" activity --book f --commodity USD
+unusable "--account" gains --book f --account Income:
+unusable "--account" reconcile --book f
+unusable "fault U2 BadValue --account" reconcile --book f --account Assets --as-of x --format x
+unusable "fault U2 BadValue --as-of" reconcile --book f --account Assets: --as-of 2024-02-30 --format x
+unusable "fault U2 BadValue --format" reconcile --book f --account Assets:Cash --format x
+for word in holdings gains activity "register --account Assets:"; do
+    read -ra words <<<"$word"
+    for format in json CSV ''; do unusable "fault U2 BadValue --format" "${words[@]}" --book f --format "$format"; done
 done
 unusable "--format" journal --book f --format csv
 
@@ -273,12 +298,19 @@ helps "--except A17" import -h
 helps "--profile profiles/degiro-transactions.toml" import -h
 helps "--keep-accepted" import -h
 helps "--show" import -h
+helps "--as-of 2024-12-31" holdings -h
 helps "--day 2024-12-31" holdings -h
 helps "it chooses prices alone" holdings -h
-for word in holdings gains; do helps "--format csv" "$word" -h; done
+for word in holdings gains register activity; do helps "--format csv" "$word" -h; done
 helps "--first 2024-01-01" gains -h
 helps "--last 2024-12-31" gains -h
 helps "--by year,commodity" gains -h
+helps "--account Assets:Broker" register -h
+helps "--commodity HOOL" register -h
+helps "It takes 16 bytes of memory for each leg" register --help
+helps "--by quarter" activity -h
+helps "--as-of 2024-12-31" reconcile -h
+helps "--account Income:" activity -h
 helps "--book new.book" restore -h
 helps "--edited" restore -h
 helps "--keep-going" restore -h
@@ -291,7 +323,7 @@ helps "--compare family.book" restore -h
 for word in help --help -h; do
     run "$word" </dev/null
     lines=$(wc -l <"$scratch/out") columns=$(wc -L <"$scratch/out")
-    if ((lines == 26 && columns <= 80)); then pass "the size of $word"; else fail "the size of $word" "$lines lines, $columns columns"; fi
+    if ((lines == 29 && columns <= 80)); then pass "the size of $word"; else fail "the size of $word" "$lines lines, $columns columns"; fi
     [[ $word == help ]] && cp "$scratch/out" "$scratch/help"
     cmp -s "$scratch/help" "$scratch/out" && pass "$word is the help" || fail "$word is the help" "other than help"
 done

@@ -6,12 +6,24 @@ need_program
 
 first=$examples/first-purchase.ledger
 
+reports=(holdings gains "register --account Assets:" activity journal dump verify)
+
+# printed BOOK: what the reports of the book print is kept.
+printed() {
+    local word words
+    for word in "${reports[@]}"; do
+        read -ra words <<<"$word"
+        "$program" "${words[@]}" --book "$1" </dev/null >"$scratch/$word"
+    done
+}
+
 # reports NAME FOLDER: the reports of the book there are those that were printed before, and no file changes.
 reports() {
-    local word before
+    local word words before
     before=$(state "$2")
-    for word in holdings gains journal dump verify; do
-        run "$word" --book "$2/family.book" </dev/null
+    for word in "${reports[@]}"; do
+        read -ra words <<<"$word"
+        run "${words[@]}" --book "$2/family.book" </dev/null
         expect "$1: $word" 0 "$scratch/$word"
     done
     if [[ $(state "$2") == "$before" ]]; then pass "$1: as it was"; else fail "$1: as it was" "a file changed"; fi
@@ -20,7 +32,7 @@ reports() {
 home=$scratch/home book=$scratch/home/family.book
 mkdir "$home"
 book_of "$book" a <"$first"
-for word in holdings gains journal dump verify; do "$program" "$word" --book "$book" </dev/null >"$scratch/$word"; done
+printed "$book"
 
 # ---- without rights
 
@@ -33,9 +45,7 @@ chmod 755 "$home" && rm "$book-wal" && chmod 555 "$home"
 program=$unprivileged reports "without a log" "$home"
 chmod 755 "$home" && cp "$book" "$scratch/whole"
 seq -f '2020-01-01 open Assets:A%g' 2000 | limited 6000 post --book "$book" --batch many >/dev/null 2>&1
-for word in holdings gains journal dump verify; do
-    cp -a "$home" "$scratch/copy" && "$program" "$word" --book "$scratch/copy/family.book" </dev/null >"$scratch/$word" && rm -r "$scratch/copy"
-done
+cp -a "$home" "$scratch/copy" && printed "$scratch/copy/family.book" && rm -r "$scratch/copy"
 chmod 444 "$book" "$book-wal" && chmod 555 "$home"
 program=$unprivileged reports "a long log that may only be read" "$home"
 if (($(wc -l <"$scratch/journal") > 100)); then pass "what stands in the log is there"; else fail "what stands in the log is there" "it isn't"; fi

@@ -124,6 +124,7 @@ run_python tests/random/reports.py "$program" "$scratch"
 fresh
 for day in 2020-02-30 2020-13-01 2021-02-29 0000-01-01 20-1-1 20200101 2020-01-01x x ''; do
     unusable "fault U2 BadValue --day" holdings --book "$book" "--day=$day"
+    unusable "fault U2 BadValue --as-of" holdings --book "$book" "--as-of=$day"
     unusable "fault U2 BadValue --first" gains --book "$book" "--first=$day"
     unusable "fault U2 BadValue --last" gains --book "$book" --first 2020-01-01 "--last=$day"
 done
@@ -135,6 +136,7 @@ unusable "--day" journal --book "$book" --day 2020-01-01
 unusable "--batch" journal --book "$book" --batch a
 unusable "--day" holdings --book "$book" --day
 unusable "--day" holdings --book "$book" --day 2020-01-01 --day 2020-01-02
+unusable "--as-of" holdings --book "$book" --as-of 2020-01-01 --as-of 2020-01-02
 for word in holdings gains journal; do
     run "$word" --help </dev/null
     if ((status == 0)) && [[ ! -s $scratch/err ]] && grep -qF -- "lotbook $word --book" "$scratch/out"; then
@@ -146,7 +148,7 @@ done
 
 # ---- files that are no book
 
-for word in holdings "holdings --day 2020-01-01" gains journal; do
+for word in holdings "holdings --day 2020-01-01" "holdings --as-of 2020-01-01" gains "gains --by year" "register --account Assets:" activity journal; do
     read -ra words <<<"$word"
     missing=$scratch/missing.book
     prints "$word of a missing file" 4 "fault S1 NotABook" "${words[@]}" --book "$missing" </dev/null
@@ -166,8 +168,9 @@ for word in holdings "holdings --day 2020-01-01" gains journal; do
 done
 # No input is waited for, or read.
 mkfifo "$scratch/nothing" && exec 7<>"$scratch/nothing"
-for word in holdings gains journal; do
-    run "$word" --book "$book" <&7
+for word in holdings gains "register --account Assets:" activity journal; do
+    read -ra words <<<"$word"
+    run "${words[@]}" --book "$book" <&7
     if ((status == 0)) && [[ ! -s $scratch/err ]]; then pass "$word reads no input"; else fail "$word reads no input" "status $status"; fi
 done
 
@@ -192,10 +195,13 @@ trades 6000 4 >"$scratch/many"
 
 # ---- output that can't be written
 
-for word in holdings "holdings --day 2020-12-31" gains journal; do
+for word in holdings "holdings --day 2020-12-31" "holdings --as-of 2020-12-31" gains "register --account Assets:" journal; do
     read -ra words <<<"$word"
     cut_short "$word" "1 10 4097" "${words[@]}" --book "$book"
 done
+commodities 2000 | book_of "$book" a || fail "many commodities" "$(grep -m 1 -v accepted "$scratch/posted")"
+cut_short "gains by keys" "1 10 4097" gains --by account,commodity --book "$book"
+cut_short activity "1 10 4097" activity --book "$book"
 fresh
 for word in holdings gains; do
     run_full "$word" --book "$book" </dev/null

@@ -14,8 +14,8 @@ NOTICE = "Written by tools/pages.py from the subcommands of the program: change 
 Word = namedtuple("Word", "name usage brief about options")
 Option = namedtuple("Option", "name value help is_repeated", defaults=(False,))
 
-# What an option takes, where the shell can offer it.
-CHOICES = {"format": ("text", "csv"), "by": ("year", "commodity", "account", "term")}
+# What an option takes, where the shell can offer it: by what its value is called, and files by its name.
+CHOICES = {"FORMAT": ("text", "csv"), "KEYS": ("year", "commodity", "account", "term"), "PERIOD": ("year", "quarter", "month")}
 FILES = ("book", "compare", "profile")
 
 
@@ -132,8 +132,18 @@ def bash_lines(words, indent, limit=120):
     return [*lines, line]
 
 
+def bash_choices(words):
+    """Of each option with choices: the words that have it, and what offers them."""
+    offers = {}
+    for of in words:
+        for it in of.options:
+            if it.value in CHOICES:
+                offers.setdefault(it.name, []).append((of.name, f'_lotbook_offer -W "{" ".join(CHOICES[it.value])}"'))
+    return offers
+
+
 def bash(whole, words, codes):
-    takes_none = sorted({f"--{it.name}" for of in words for it in of.options if it.value and it.name not in (*CHOICES, *FILES)})
+    takes_none = sorted({f"--{it.name}" for of in words for it in of.options if it.value and it.value not in CHOICES and it.name not in FILES})
     cases = []
     for of in [*words, None]:
         options = [f"--{it.name}" for it in (of or whole).options]
@@ -146,8 +156,13 @@ def bash(whole, words, codes):
         else:
             cases.append(f"        {label}) ;;")
     choices = []
-    for name, values in CHOICES.items():
-        choices += [f"        --{name})", f'            _lotbook_offer -W "{" ".join(values)}"', "            return", "            ;;"]
+    for name, offers in bash_choices(words).items():
+        choices.append(f"        --{name})")
+        if len({offer for _, offer in offers}) == 1:
+            choices.append(f"            {offers[0][1]}")
+        else:
+            choices += ["            case $word in", *(f"                {of}) {offer} ;;" for of, offer in offers), "            esac"]
+        choices += ["            return", "            ;;"]
     coded = "\n".join(f'_lotbook_codes+=" {" ".join(codes[at:at + 16])}"' for at in range(0, len(codes), 16)).replace("+=\" ", "=\"", 1)
     return BASH % {
         "notice": NOTICE,
@@ -239,8 +254,8 @@ def zsh_option(it):
         return zsh_quoted(alone) + forms + zsh_quoted(said) if forms else zsh_quoted(f"--{it.name}{said}")
     if it.name in FILES:
         action = "_files"
-    elif it.name in CHOICES:
-        action = "(%s)" % " ".join(CHOICES[it.name])
+    elif it.value in CHOICES:
+        action = "(%s)" % " ".join(CHOICES[it.value])
     else:
         action = ""
     again = "*" if it.is_repeated else ""
@@ -282,8 +297,8 @@ def fish_option(it, of):
     takes = ""
     if it.name in FILES:
         takes = " -r -F"
-    elif it.name in CHOICES:
-        takes = " -x -a " + fish_quoted(" ".join(CHOICES[it.name]))
+    elif it.value in CHOICES:
+        takes = " -x -a " + fish_quoted(" ".join(CHOICES[it.value]))
     elif it.value:
         takes = " -x"
     return f"complete -c lotbook -n '__lotbook_word_is{of}'{letters.get(it.name, '')} -l {it.name}{takes} -d {fish_quoted(short(it.help))}"

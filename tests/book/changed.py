@@ -44,7 +44,12 @@ LEDGER = """\
 PROBES = {
     "holdings": (["holdings"], ""),
     "values": (["holdings", "--day", "2020-12-31"], ""),
+    "past": (["holdings", "--as-of", "2020-01-31"], ""),
     "gains": (["gains"], ""),
+    "sums": (["gains", "--by", "year,commodity"], ""),
+    "register": (["register", "--account", "Assets:"], ""),
+    "activity": (["activity", "--by", "quarter"], ""),
+    "statement": (["reconcile", "--account", "Assets:"], "commodity,units\nHOOL,5\n"),
     "journal": (["journal"], ""),
     "migrate": (["migrate"], ""),
     "verify": (["verify"], ""),
@@ -211,15 +216,18 @@ UNREAD = {
 # Of the place of migration: values of other types.
 UNTYPED = ["'0'", "0.5", "x'30'", "NULL"]
 
-# Of each table but `book` and `migration` the columns that are read, and the probe that reads a row, found by its key or in the order of it.
+# Of each table but `book` and `migration` the columns that are read, and the probes that read a row, found by its key or in the order of it.
 COLUMNS = {
     "account": ("opened closed method", "name = 'Assets:Broker'", "buy"),
     "allowed": ("place commodity", "place = 1", "buy"),
     "commodity": ("day", "1", "declare"),
     "price": ("base quote day rate", "1", "values"),
-    "entry": ("number source name body", "number = 2", "journal"),
-    "leg": ("place account commodity units cost_number cost_currency cost_day cost_label", "entry = 9 AND posting = 1", "gains"),
-    "sale": ("entry posting day account commodity units kind amount currency", "1", "gains"),
+    "entry": ("number source name body", "number = 9", "journal past register activity statement"),
+    "leg": (
+        "place account commodity units cost_number cost_currency cost_day cost_label", "entry = 9 AND posting = 1",
+        "gains sums past register activity statement",
+    ),
+    "sale": ("entry posting day account commodity units kind amount currency", "1", "gains sums"),
     "lot": ("account commodity cost_day cost_currency cost_number cost_label units", "1", "holdings"),
     "plain": ("account commodity units", "account = 'Assets:Cash'", "holdings"),
     "head": ("day", "1", "buy"),
@@ -339,11 +347,11 @@ def damages(db):
         for value in values:
             for name in (probe_of, "verify"):
                 yield f"{name} with {table}.{column} = {value}", [f"UPDATE {table} SET {column} = {value} WHERE {row}"], name, DAMAGED
-    for table, (columns, row, probe_of) in COLUMNS.items():
+    for table, (columns, row, probes) in COLUMNS.items():
         for column in columns.split():
             for value in wrong_types(db, table, column, row):
                 statements = [*without_types(db, table), f"UPDATE {table} SET {column} = {value} WHERE {row}"]
-                for name in (probe_of, "verify"):
+                for name in (*probes.split(), "verify"):
                     yield f"{name} with {table}.{column} = {value} in a column without a type", statements, name, DAMAGED
     for table, names in NEEDED.items():
         for name in (*names, "verify"):

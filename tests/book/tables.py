@@ -24,6 +24,7 @@ import sys
 sys.path.insert(0, os.path.join(os.path.dirname(os.path.abspath(__file__)), "..", "random"))
 
 import model  # noqa: E402  (the folder is named above)
+import text as second  # noqa: E402
 
 TABLES = ("book", "account", "allowed", "commodity", "price", "entry", "leg", "sale", "lot", "plain", "head", "opening", "migration")
 OF_EDITION_1, ADDED = TABLES[:11], TABLES[11:]
@@ -32,6 +33,25 @@ OF_EDITION_1, ADDED = TABLES[:11], TABLES[11:]
 OLDER = os.path.join(os.path.dirname(os.path.abspath(__file__)), "edition-1.sql")
 
 KEY = "account, commodity, cost_day, cost_currency, cost_number, cost_label"
+
+# The names of the columns of tables for a spreadsheet.
+HOLDINGS = "account,commodity,units,acquired,label,unit_cost,currency,cost"
+VALUES = ",price,value"
+GAINS = "entry,posting,account,commodity,units,acquired,sold,days_held,label,unit_cost,currency,proceeds,cost,gain,term"
+REGISTER = "day,entry,posting,account,commodity,units,acquired,label,unit_cost,currency,left,narration"
+ACTIVITY = "period,account,commodity,in,out"
+
+# Legs with the days and the texts of their entries.
+MOVED = "(SELECT leg.*, body, substr(body, 1, 10) AS day FROM leg JOIN entry ON number = entry)"
+# They are of an account, or of those whose names begin so, where it ends with a colon; of any where it is empty.
+OF_ACCOUNT = """(account = :account OR :account = ''
+    OR substr(:account, -1) = ':' AND substr(account, 1, length(:account)) = :account)"""
+PERIODS = {
+    "year": "substr(day, 1, 4)", "quarter": "substr(day, 1, 4) || '-Q' || ((substr(day, 6, 2) + 2) / 3)", "month": "substr(day, 1, 7)",
+}
+FIRST_DAY, LAST_DAY = "0001-01-01", "9999-12-31"
+PART = 10**9  # a sum is asked for in two parts, since in one it may be beyond the 64 bits of SQLite
+BEYOND = "fault P1 Range"
 ENDS = ("", "-wal", "-shm", "-journal")  # of the names of a book's file and of those beside it
 PAGE = 4096
 
@@ -109,12 +129,31 @@ def price_at(db, day, base, quote):
     return found and found[0]
 
 
+def total(units, over=""):
+    """What asks for a sum, in two parts; over a window where there is one."""
+    return ", ".join(f"sum({units} {by} {PART}) {over}" for by in "/%")
+
+
+def joined(high, low):
+    return high * PART + low
+
+
+def held(db, last=None):
+    """The positions of `plain` and `lot`, or at the end of the last day those of `leg`: the key of each, with its units."""
+    query = f"SELECT account, commodity, NULL, NULL, NULL, NULL, 0, units FROM plain UNION ALL SELECT {KEY}, 0, units FROM lot"
+    if last is not None:
+        query = f"SELECT {KEY}, {total('units')} FROM {MOVED} WHERE day <= :last GROUP BY {KEY}"
+    rows = []
+    for account, commodity, day, *cost, high, low in db.execute(query, dict(last=last)):
+        key = (account, commodity, 0) if day is None else (account, commodity, 1, day, *cost)
+        rows.append((key, joined(high, low)))
+    return rows if last is None else [(key, units) for key, units in rows if units]
+
+
 def holdings(path, day=None):
     """The lines that the program prints of these rows, with values at that day (docs/FORMATS.md, Holdings)."""
     with connect(path) as db:
-        rows = [((account, commodity, 0), units) for account, commodity, units in db.execute("SELECT account, commodity, units FROM plain")]
-        lots = db.execute("SELECT account, commodity, cost_day, cost_currency, cost_number, cost_label, units FROM lot")
-        rows += [((account, commodity, 1, *key), units) for account, commodity, *key, units in lots]
+        rows = held(db)
         rates = {}
         for (_, commodity, is_lot, *key), _ in rows:
             if is_lot and day is not None:
@@ -144,13 +183,14 @@ def record_text(fields):
     return text.getvalue()
 
 
-def holdings_csv(path, day=None):
-    """The lines that the program prints of these rows as CSV, with values at that day (docs/FORMATS.md, Tables for a spreadsheet)."""
+def holdings_csv(path, day=None, last=None):
+    """The lines that the program prints of these rows as CSV, with values at that day, or of what was held at the end of the last day
+    (docs/FORMATS.md, Tables for a spreadsheet)."""
     lines = []
     with connect(path) as db:
-        rows = [((account, commodity, 0), units) for account, commodity, units in db.execute("SELECT account, commodity, units FROM plain")]
-        lots = db.execute("SELECT account, commodity, cost_day, cost_currency, cost_number, cost_label, units FROM lot")
-        rows += [((account, commodity, 1, *key), units) for account, commodity, *key, units in lots]
+        rows = held(db, last)
+        if any(abs(units) >= model.UNITS_LIMIT for _, units in rows):
+            return [BEYOND]
         for (account, commodity, is_lot, *key), units in sorted(rows):
             record = [account, commodity, model.number_text(units)]
             rate = None
@@ -163,7 +203,7 @@ def holdings_csv(path, day=None):
             if day is not None:
                 record += ["", ""] if rate is None else [model.number_text(rate), model.money_text(units * rate, 16)]
             lines.append(record_text(record))
-    return ["account,commodity,units,acquired,label,unit_cost,currency,cost" + ("" if day is None else ",price,value"), *lines]
+    return [HOLDINGS + ("" if day is None else VALUES), *lines]
 
 
 def opening_text(key, opening):
@@ -232,7 +272,7 @@ def term_of(acquired, sold):
 
 def gains_csv(path):
     """The lines that the program prints of these rows as CSV (docs/FORMATS.md, Tables for a spreadsheet)."""
-    lines = ["entry,posting,account,commodity,units,acquired,sold,days_held,label,unit_cost,currency,proceeds,cost,gain,term"]
+    lines = [GAINS]
     with connect(path) as db:
         for (entry, posting, day, account, commodity, units, kind, amount, currency), legs in sales_of(db):
             is_priced = kind and all(leg[2] == currency for leg in legs)
@@ -243,6 +283,52 @@ def gains_csv(path):
                 record = [entry, posting, account, commodity, model.number_text(taken), day_text(acquired), day_text(day), day - acquired]
                 lines.append(record_text([*record, label, model.number_text(number), cost_currency, *money, term_of(acquired, day)]))
     return lines
+
+
+def narration(body):
+    """What the first line of an entry says, without the payee."""
+    try:
+        return second.read(body.partition("\n")[0].encode())[0].narration or ""
+    except (second.Fault, LookupError, AttributeError) as fault:
+        raise ValueError("the entry is no transaction") from fault
+
+
+def register_csv(path, account, commodity=None, first=FIRST_DAY, last=LAST_DAY):
+    """The lines that the program prints of these rows as CSV (docs/FORMATS.md, Register)."""
+    query = f"""
+        SELECT day, entry, posting, account, commodity, units, cost_day, cost_label, cost_number, cost_currency, body,
+            {total('units', 'OVER way')}
+        FROM {MOVED} WHERE {OF_ACCOUNT} AND day <= :last AND (commodity = :commodity OR :commodity IS NULL)
+        WINDOW way AS (PARTITION BY account, commodity ORDER BY day, entry, posting, place) ORDER BY day, entry, posting, place"""
+    lines, asked = [REGISTER], dict(account=account, commodity=commodity, last=last)
+    with connect(path) as db:
+        for *front, units, acquired, label, number, currency, body, high, low in db.execute(query, asked):
+            left = joined(high, low)
+            if abs(left) >= model.UNITS_LIMIT:
+                return [*lines, BEYOND]
+            if front[0] >= first:
+                key = [""] * 4 if acquired is None else [day_text(acquired), label, model.number_text(number), currency]
+                lines.append(record_text([*front, model.number_text(units), *key, model.number_text(left), narration(body)]))
+    return lines
+
+
+def activity_csv(path, account="", period="year", first=FIRST_DAY, last=LAST_DAY):
+    """The lines that the program prints of these rows as CSV (docs/FORMATS.md, Activity)."""
+    query = f"""
+        SELECT {PERIODS[period]}, account, commodity, {total('max(units, 0)')}, {total('max(-units, 0)')}
+        FROM {MOVED} WHERE {OF_ACCOUNT} AND cost_day IS NULL AND day BETWEEN :first AND :last GROUP BY 1, 2, 3 ORDER BY 1, 2, 3"""
+    lines = [ACTIVITY]
+    with connect(path) as db:
+        for *row, came, of_came, went, of_went in db.execute(query, dict(account=account, first=first, last=last)):
+            lines.append(record_text([*row, *map(model.money_text, (joined(came, of_came), joined(went, of_went)))]))
+    return lines
+
+
+def commodities_of(path, account, last=LAST_DAY):
+    """How many units of each commodity accounts hold at the end of a day, plain and at lots, as `reconcile` counts them."""
+    query = f"SELECT commodity, {total('units')} FROM {MOVED} WHERE {OF_ACCOUNT} AND day <= :last GROUP BY commodity"
+    with connect(path) as db:
+        return {name: joined(*parts) for name, *parts in db.execute(query, dict(account=account, last=last))}
 
 
 def journal(path):

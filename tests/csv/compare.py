@@ -3,10 +3,13 @@
     compare.py PROGRAM SCRATCH [--first SEED] [--count N]
 
 The plain records are written from docs/FORMATS.md and docs/RULES.md alone, over the entries of the plain judge of tests/random/.
-Each ledger is posted to a new book; then its holdings, with and without days, and its gains, whole and in ranges, are asked for as
-CSV. What is printed has to be what Python's `csv` writes of the plain records, byte for byte, and to read back as they are. Of the
-same gains as text, each sale has to be what its records add up to, exactly; and so has each row of a table by keys. A case is the
-ledgers of a hundred seeds, or a kind of record, which has to occur. A difference goes to standard error, with its seed.
+Each ledger is posted to a new book; then its holdings, with and without days, those of past days, and its gains, whole and in
+ranges, are asked for as CSV. What is printed has to be what Python's `csv` writes of the plain records, byte for byte, and to read
+back as they are. Of the same gains as text, each sale has to be what its records add up to, exactly; and so has each row of a table
+by keys. The register of some accounts has to be their legs in the order of days, as CSV and as text. The activity of some accounts,
+by periods of some length, has to be what the legs come to, as CSV and as text; and a statement of them, changed in some rows, has to
+differ in just these. A case is the ledgers of a hundred seeds, or a kind of record, which has to occur. A difference goes to standard
+error, with its seed.
 """
 
 import collections
@@ -30,15 +33,20 @@ import reports
 import spell
 import tables
 import tally
-from model import ONE, day_text, key_order, number_text
+from model import ONE, day_text, key_order, money_text, number_text
 
 getcontext().prec = 60
 
 A_CASE = 100  # seeds
-GAINS = "entry,posting,account,commodity,units,acquired,sold,days_held,label,unit_cost,currency,proceeds,cost,gain,term".split(",")
-HOLDINGS = "account,commodity,units,acquired,label,unit_cost,currency,cost".split(",")
-VALUES = ["price", "value"]
+GAINS, REGISTER, ACTIVITY = (names.split(",") for names in (tables.GAINS, tables.REGISTER, tables.ACTIVITY))
+HOLDINGS, VALUES = tables.HOLDINGS.split(","), tables.VALUES.split(",")[1:]
 SUMS = "currency,lots,proceeds,cost,gain".split(",")
+STATEMENT = "commodity,units".split(",")
+RECONCILED = "commodity,statement,book,difference".split(",")
+PERIODS = {
+    "year": lambda year, month: f"{year:04}", "quarter": lambda year, month: f"{year:04}-Q{(month + 2) // 3}",
+    "month": lambda year, month: f"{year:04}-{month:02}",
+}
 KEYS = {"year": lambda record: record["sold"][:4], **{key: lambda record, key=key: record[key] for key in ("commodity", "account", "term")}}
 
 draw.LABELS = (None, None, None, "a", "b", "é", "a lot; {}", "of ten, the first") # some with a comma
@@ -47,7 +55,11 @@ KINDS = (
     "a price of each unit", "a total price", "a total that a lot has no whole part of", "a total of several lots", "an unpriced sale",
     "a short that is covered", "a lot that is sold before its day", "a lot that is held over a year", "a label in quotes",
     "a plain position", "a lot with a price", "a lot without a price", "no sales", "nothing held", "a row of several sales",
-    "a row with priced and unpriced lots", "rows in two currencies",
+    "a row with priced and unpriced lots", "rows in two currencies", "a past day", "a past day with an entry behind a later one",
+    "an account that takes and gives in a period", "a leg behind one of a later entry", "no legs", "a register of one commodity",
+    "legs before the first day", "a narration", "no narration",
+    "an account with a colon at its end", "no activity", "a statement that agrees", "a statement that leaves out what is held",
+    "a statement of what isn't held",
 )
 
 
@@ -140,8 +152,96 @@ def gains_by(keys, records, seen):
     return table, "".join(line + "\n" for line in text or ["no gains"])
 
 
-def holdings(book, day, seen):
-    records, held = [], model.Held(book)
+def is_asked(account, leg):
+    """Whether a leg is of that account, or of one whose name begins so, where it ends with a colon; of any where it is empty."""
+    return leg.account.startswith(account) if account.endswith(":") else not account or leg.account == account
+
+
+def register(book, account, commodity, first, last, seen):
+    """The legs of accounts in the order of days, each with what is left behind it, as CSV and as text."""
+    legs = [
+        (entry.command.day, number, place, leg, entry.command.narration)
+        for number, entry in enumerate(book, 1)
+        for place, booked in enumerate(entry.booked, 1)
+        for leg in booked.legs
+    ]
+    left, behind = collections.Counter(), 0
+    table, text = [REGISTER], []
+    for day, number, place, leg, narration in sorted(legs, key=lambda leg: leg[:3]): # those of a posting stay in their order
+        if not is_asked(account, leg) or day > last or commodity and leg.commodity != commodity:
+            continue
+        left[leg.account, leg.commodity] += leg.units
+        seen["a leg behind one of a later entry"] += number < behind
+        behind = max(behind, number)
+        if day < first:
+            seen["legs before the first day"] += 1
+            continue
+        now = left[leg.account, leg.commodity]
+        if abs(now) >= model.UNITS_LIMIT:
+            return None, None
+        key = leg.key and [day_text(leg.key.day), leg.key.label or "", number_text(leg.key.number), leg.key.currency]
+        table.append([day_text(day), str(number), str(place), leg.account, leg.commodity, number_text(leg.units), *(key or [""] * 4),
+                      number_text(now), narration or ""])
+        write, lot = (number_text, " " + reports.lot_read(leg.key)) if key else (money_text, "")
+        text.append(f"{day_text(day)} {leg.account} {write(leg.units)} {leg.commodity}{lot} left {write(now)} entry {number}"
+                    + ("" if narration is None else f" {narration}"))
+        seen["no narration" if narration is None else "a narration"] += 1
+    seen["no legs"] += not text
+    seen["a register of one commodity"] += commodity is not None
+    return table, "".join(line + "\n" for line in text or ["no legs"])
+
+
+def activity(book, account, first, last, length, seen):
+    """The table of plain units that went in and out by periods of that length, as CSV and as text."""
+    rows = collections.defaultdict(lambda: [0, 0])
+    for entry in book:
+        year, month, _ = entry.command.day
+        for leg in entry.legs():
+            if leg.key is None and first <= entry.command.day <= last and is_asked(account, leg):
+                rows[PERIODS[length](year, month), leg.account, leg.commodity][leg.units < 0] += abs(leg.units)
+    table, text = [ACTIVITY], []
+    for row in sorted(rows, key=lambda row: [part.encode() for part in row]):
+        came, went = (money_text(units) for units in rows[row])
+        seen["an account that takes and gives in a period"] += all(rows[row])
+        table.append([*row, came, went])
+        text.append(f"{' '.join(row)} in {came} out {went}")
+    seen["no activity"] += not rows
+    return table, "".join(line + "\n" for line in text or ["no activity"])
+
+
+def reconcile(rng, book, account, day, seen):
+    """A statement of what is held at the end of a day, changed here and there, and what it differs in, as CSV and as text."""
+    held = collections.Counter()
+    for entry in book:
+        for leg in entry.legs():
+            if entry.command.day <= day and is_asked(account, leg):
+                held[leg.commodity] += leg.units
+    return reconciled(rng, held, seen)
+
+
+def reconciled(rng, held, seen):
+    """The same of units by commodity."""
+    said = {name: units + rng.choice((0, 0, 0, 1, -ONE)) for name, units in held.items() if rng.random() < 0.9}
+    said = {name: units for name, units in said.items() if abs(units) < model.UNITS_LIMIT} # more can't be written
+    said.update((name, rng.choice((0, ONE))) for name in ("NONE", "A.N-ONE") if name not in held and rng.random() < 0.2)
+    statement = [STATEMENT, *([name, number_text(said[name])] for name in rng.sample(sorted(said), len(said)))]
+    table, text = [RECONCILED], []
+    for name in sorted({*said, *held}, key=str.encode):
+        amounts = said.get(name, 0), held.get(name, 0), said.get(name, 0) - held.get(name, 0)
+        if amounts[2]:
+            row = [name, *map(money_text, amounts)]
+            table.append(row)
+            text.append("{} statement {} book {} difference {}".format(*row))
+            seen["a statement that leaves out what is held"] += name not in said
+            seen["a statement of what isn't held"] += name not in held
+    seen["a statement that agrees"] += len(said) > 0 and not text
+    return written(statement), table, "".join(line + "\n" for line in text or ["nothing differs"])
+
+
+def holdings(book, day, seen, last=None):
+    records, held = [], model.Held(reports.up_to(book, last, seen))
+    if reports.is_beyond(held):
+        return [[reports.BEYOND]]
     for pair in held.pairs():
         account, commodity = pair
         lots = held.lots_of(pair)
@@ -193,8 +293,8 @@ def sums_differ(text, table):
     return ""
 
 
-def call(program, words):
-    done = subprocess.run([program, *words], input=b"", capture_output=True, timeout=600)
+def call(program, words, given=""):
+    done = subprocess.run([program, *words], input=given.encode(), capture_output=True, timeout=600)
     return done.stdout.decode(), done.returncode, done.stderr.decode()
 
 
@@ -209,6 +309,8 @@ def compare(program, scratch, seed):
     days, ranges = reports.asked(rng, drawing.book)
     asked = [(["holdings"], holdings(drawing.book, None, seen))]
     asked += [(["holdings", "--day", day_text(day)], holdings(drawing.book, day, seen)) for day in days]
+    asked += [(["holdings", "--as-of", day_text(day)], holdings(drawing.book, day, seen, day)) for day in days]
+    asked.append((["holdings", "--as-of", day_text(days[0]), "--day", day_text(days[1])], holdings(drawing.book, days[1], seen, days[0])))
     asked.append((["gains"], gains(drawing.book, reports.FIRST_DAY, reports.LAST_DAY, seen)))
     for first, last in ranges:
         asked.append((["gains", "--first", day_text(first), "--last", day_text(last)], gains(drawing.book, first, last, seen)))
@@ -216,7 +318,7 @@ def compare(program, scratch, seed):
     for words, records in asked:
         got = call(program, [words[0], "--book", book, "--format", "csv", *words[1:]])
         wanted = written(records)
-        if got != (wanted, 0, ""):
+        if got != (wanted, 4 if records == [[reports.BEYOND]] else 0, ""):
             found += f"--- {' '.join(words)}, wanted\n{wanted}--- got, status {got[1]}\n{got[0]}{got[2]}"
         elif list(csv.reader(io.StringIO(got[0], newline=""))) != records:
             found += f"--- {' '.join(words)} doesn't read back\n{got[0]}"
@@ -235,6 +337,41 @@ def compare(program, scratch, seed):
             got = call(program, words + more)
             if got != (wanted, 0, ""):
                 found += f"--- {' '.join(words + more)}, wanted\n{wanted}--- got, status {got[1]}\n{got[0]}{got[2]}"
+    accounts = sorted({leg.account for entry in drawing.book for leg in entry.legs()}) or ["Assets:None"]
+    for first, last in [(reports.FIRST_DAY, reports.LAST_DAY), *ranges[:1]]:
+        account, length = rng.choice(accounts), rng.choice(sorted(PERIODS))
+        account = rng.choice(["", account, account + ":", account.rpartition(":")[0] + ":"])
+        seen["an account with a colon at its end"] += account.endswith(":")
+        table, plain = activity(drawing.book, account, first, last, length, seen)
+        words = ["activity", "--book", book, "--by", length, "--first", day_text(first), "--last", day_text(last)]
+        words += ["--account", account] if account else []
+        for wanted, more in ((written(table), ["--format", "csv"]), (plain, [])):
+            got = call(program, words + more)
+            if got != (wanted, 0, ""):
+                found += f"--- {' '.join(words + more)}, wanted\n{wanted}--- got, status {got[1]}\n{got[0]}{got[2]}"
+    commodities = sorted({leg.commodity for entry in drawing.book for leg in entry.legs()})
+    for first, last in [(reports.FIRST_DAY, reports.LAST_DAY), *ranges[:2]]:
+        account, commodity = rng.choice(accounts), rng.choice([None, None, *commodities[:1]])
+        account = rng.choice([account, account, account.rpartition(":")[0] + ":", account + ":"])
+        table, plain = register(drawing.book, account, commodity, first, last, seen)
+        if table is None:
+            continue # what is left is out of range: tests/reports/register-range.session
+        words = ["register", "--book", book, "--account", account, "--first", day_text(first), "--last", day_text(last)]
+        words += ["--commodity", commodity] if commodity else []
+        for wanted, more in ((written(table), ["--format", "csv"]), (plain, [])):
+            got = call(program, words + more)
+            if got != (wanted, 0, ""):
+                found += f"--- {' '.join(words + more)}, wanted\n{wanted}--- got, status {got[1]}\n{got[0]}{got[2]}"
+    for day in [reports.LAST_DAY, *days[:1]]:
+        account = rng.choice(accounts)
+        account = rng.choice([account, account + ":", account.rpartition(":")[0] + ":"])
+        statement, table, plain = reconcile(rng, drawing.book, account, day, seen)
+        words = ["reconcile", "--book", book, "--account", account]
+        words += [] if day == reports.LAST_DAY else ["--as-of", day_text(day)]
+        for wanted, more in ((written(table), ["--format", "csv"]), (plain, [])):
+            got = call(program, words + more, statement)
+            if got != (wanted, int(len(table) > 1), ""):
+                found += f"--- {' '.join(words + more)} of\n{statement}--- wanted\n{wanted}--- got, status {got[1]}\n{got[0]}{got[2]}"
     tables.removed(book)
     return found and text.decode() + found, seen
 

@@ -260,9 +260,9 @@ class Sweep:
         return True
 
     def may_fail_behind_its_lines(self):
-        """Whether memory may lack once all lines are written: a journal and a table have no line of their own at the end, and then look
-        for more rows."""
-        return self.call.words[:1] == ["journal"] or "csv" in self.call.words
+        """Whether memory may lack once all lines are written: a journal, a register and a table have no line of their own at the end, and then
+        look for more rows."""
+        return self.call.words[:1] in (["journal"], ["register"]) or "csv" in self.call.words
 
     def judge(self, copy, status, state):
         """Raises where a copy answered or left what it may not."""
@@ -373,6 +373,7 @@ ROUNDING = ["--rounding", "Equity:Rounding"]
 MAKE = INIT, b""
 MIGRATE = ["migrate", "--book", BOOK]
 RESTORE = ["restore", "--book", BOOK]
+STATEMENT = b"commodity,units\nHOOL,3\nGOLD,1\nUSD,0\n"
 
 
 def content(*path):
@@ -409,6 +410,7 @@ def short_calls(texts, crumbs):
     yield Call("a value outside its rule", ["holdings", "--book", BOOK, "--day", "2020-02-30"])
     yield Call("a report of a file that isn't there", ["holdings", "--book", BOOK])
     yield Call("a post to a file that isn't there", POST, texts["the first purchase"])
+    yield Call("a faulty statement", ["reconcile", "--book", BOOK, "--account", "Assets:"], STATEMENT + b"HOOL,4\n")
     yield Call("a report of a folder", ["journal", "--book", "/"])
     yield Call("a report of a file that is no database", ["gains", "--book", BOOK], file=b"no database\n" * 1000)
     yield Call("migrate a file that isn't there", MIGRATE)
@@ -463,9 +465,15 @@ def longer_calls(texts, crumbs, broker, older):
     yield Call("init of a book of edition 1", INIT, file=older)
     books = {"an empty book": [MAKE], "a book with a sale": filled, "a book of every kind": [MAKE, (POST, texts["every kind"])]}
     for book, before in books.items():
-        day, table = ["--day", "2020-12-31"], ["--format", "csv"]
-        for words in (["holdings"], ["holdings", *day], ["holdings", *day, *table], ["gains"], ["gains", *table], ["journal"], ["dump"], ["verify", "--digest"]):
-            yield Call(f"{' '.join(words)} of {book}", [words[0], "--book", BOOK, *words[1:]], before=before)
+        day, past, table, below = ["--day", "2020-12-31"], ["--as-of", "2020-03-31"], ["--format", "csv"], ["--account", "Assets:"]
+        for words in (
+            ["holdings"], ["holdings", *day], ["holdings", *day, *table], ["holdings", *past], ["holdings", *past, *table],
+            ["gains"], ["gains", *table], ["gains", "--by", "year,term"], ["gains", "--by", "commodity", *table],
+            ["register", *below], ["register", *below, *table], ["activity", "--by", "month"], ["activity", *table],
+            ["reconcile", *below], ["reconcile", *below, *past, *table], ["journal"], ["dump"], ["verify", "--digest"],
+        ):  # fmt: skip
+            text = STATEMENT if words[0] == "reconcile" else b""
+            yield Call(f"{' '.join(words)} of {book}", [words[0], "--book", BOOK, *words[1:]], text, before)
 
 
 def older_book(scratch):

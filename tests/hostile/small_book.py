@@ -18,14 +18,17 @@ import tables
 # A post that is repeated, and then reads a row of each table.
 POST = changed.LEDGER + "".join(changed.PROBES[name][1] for name in ("buy", "sell", "back", "declare", "quote"))
 ROWS = "ref,date,action,symbol,units,price,currency,fee\nB1,2020-03-01,BUY,HOOL,1,100,USD,\nB2,2020-03-02,SELL,HOOL,1,120,USD,0.5\n"
-DAY = "2020-12-31"
+DAY, PAST = "2020-12-31", "2020-01-03"
 
 # Each report, the words that ask for it, and the plain function that prints it from the rows of the tables.
 REPORTS = {
     "holdings": (["holdings", "--day", DAY], functools.partial(tables.holdings, day=DAY)),
     "holdings as CSV": (["holdings", "--day", DAY, "--format", "csv"], functools.partial(tables.holdings_csv, day=DAY)),
+    "holdings of a past day": (["holdings", "--as-of", PAST, "--format", "csv"], functools.partial(tables.holdings_csv, day=PAST, last=PAST)),
     "gains": (["gains"], tables.gains),
     "gains as CSV": (["gains", "--format", "csv"], tables.gains_csv),
+    "register": (["register", "--account", "Assets:", "--format", "csv"], functools.partial(tables.register_csv, account="Assets:")),
+    "activity": (["activity", "--by", "month", "--format", "csv"], functools.partial(tables.activity_csv, period="month")),
     "journal": (["journal"], tables.journal),
     "dump": (["dump"], tables.dump),
 }

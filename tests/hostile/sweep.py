@@ -53,8 +53,15 @@ COUNT = "[1-9][0-9]*"
 FAULT = re.compile(
     rf"({COUNT} )?fault (?P<fault>{OUTSIDE})|fault (line {COUNT} X|header C|row {COUNT} C)[0-9] [A-Za-z0-9]+( [A-Z][a-z]+)?"
 )
+PERIOD = "[0-9]{4}(-Q[1-4]|-[0-9]{2})?"
+SUM_KEY = rf"([0-9]{{4}}|{ACCOUNT}|{COMMODITY}|(up-to|over)-a-year)"
+NOTE = r"[^\x00-\x08\x0a-\x1f\x7f]*"
 REPORT = re.compile(
     rf"{ACCOUNT} {NUMBER} {COMMODITY}( {LOT}( value (none|{NUMBER} {COMMODITY}))?)?|total (cost|value|gain) {NUMBER} {COMMODITY}"
+    rf"|{DAY} {ACCOUNT} {NUMBER} {COMMODITY}( {LOT})? left {NUMBER} entry {COUNT}( {NOTE})?"
+    rf"|({SUM_KEY} )+{COMMODITY} lots {COUNT} (proceeds {NUMBER} cost {NUMBER} gain {NUMBER}|cost {NUMBER} unpriced)"
+    rf"|{PERIOD} {ACCOUNT} {COMMODITY} in {NUMBER} out {NUMBER}|{COMMODITY} statement {NUMBER} book {NUMBER} difference {NUMBER}"
+    r"|no legs|no activity|nothing differs"
     rf"|{DAY} {ACCOUNT} {NUMBER} {COMMODITY} (unpriced|proceeds {NUMBER} cost {NUMBER} gain {NUMBER} {COMMODITY})"
     rf"|  {NUMBER} {COMMODITY} {LOT}|nothing held|no gains|book ready|book migrated|book verified"
 )
@@ -65,6 +72,8 @@ TABLE = re.compile(
     rf"|{ACCOUNT},{COMMODITY},{NUMBER},({DAY},{FIELD},{NUMBER},{COMMODITY},{NUMBER}|,,,,)(,({NUMBER},{NUMBER}|,))?"
     rf"|{COUNT},{COUNT},{ACCOUNT},{COMMODITY},{NUMBER},{DAY},{DAY},-?[0-9]+,{FIELD},{NUMBER},{COMMODITY}"
     rf",({NUMBER},{NUMBER},{NUMBER}|,{NUMBER},),(up-to|over)-a-year"
+    rf"|{tables.REGISTER}|{tables.ACTIVITY}|{PERIOD},{ACCOUNT},{COMMODITY},{NUMBER},{NUMBER}"
+    rf"|{DAY},{COUNT},{COUNT},{ACCOUNT},{COMMODITY},{NUMBER},({DAY},{FIELD},{NUMBER},{COMMODITY}|,,,),{NUMBER},{NOTE}"
 )
 REPLY = re.compile(rf"{COUNT} (accepted|repeat|refused [LB][0-9]+ [A-Za-z]+( posting {COUNT}| {COMMODITY})?)")
 KEY = re.compile(rf"; entry {COUNT} key [^\x00-\x1f\x7f]+")

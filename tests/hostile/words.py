@@ -28,18 +28,25 @@ OPTIONS = {
         "--book": "f", "--batch": "a", "--invest": "Assets:A", "--cash": "Assets:B", "--fees": "Expenses:F", "--gains": "Income:G",
         "--from": "1",
     },
-    "holdings": {"--book": "f", "--day": "2020-01-01", "--format": "csv"},
+    "holdings": {"--book": "f", "--as-of": "2020-01-01", "--day": "2020-01-01", "--format": "csv"},
     "gains": {"--book": "f", "--first": "2020-01-01", "--last": "2020-01-01", "--by": "year,term", "--format": "text"},
+    "register": {
+        "--book": "f", "--account": "Assets:", "--commodity": "USD", "--first": "2020-01-01", "--last": "2020-01-01", "--format": "csv",
+    },
+    "activity": {
+        "--book": "f", "--account": "Income:", "--first": "2020-01-01", "--last": "2020-01-01", "--by": "month", "--format": "csv",
+    },
+    "reconcile": {"--book": "f", "--account": "Assets:Cash", "--as-of": "2020-01-01", "--format": "csv"},
     "journal": {"--book": "f"},
     "dump": {"--book": "f"},
     "restore": {"--book": "f"},
     "migrate": {"--book": "f"},
     "verify": {"--book": "f"},
 }  # fmt: skip
-HEADER = b"ref,date,action,symbol,units,price,currency,fee\n"
+GIVEN = {"import": b"ref,date,action,symbol,units,price,currency,fee\n", "reconcile": b"commodity,units\n"}  # inputs without a fault
 REQUIRED = ("--book", "--batch", "--invest", "--cash", "--fees", "--gains")
 # Values outside each option's rule, of which the program itself says which option it is: `clap` reads the value of --from.
-BAD = {"--batch": "/", "--invest": "A", "--cash": "A", "--fees": "A", "--gains": "A", "--day": "x", "--first": "x", "--last": "x", "--by": "x", "--format": "x"}
+BAD = {"--batch": "/", "--invest": "A", "--cash": "A", "--fees": "A", "--gains": "A", "--account": "A", "--commodity": "a", "--day": "x", "--as-of": "x", "--first": "x", "--last": "x", "--by": "x", "--format": "x"}
 
 
 def words_of_books(program):
@@ -170,7 +177,7 @@ def no_paths(program, scratch):
             shutil.rmtree(folder, ignore_errors=True)
             os.mkdir(folder)
             said = opened if word in ("init", "restore") else others  # these make a file
-            text = HEADER if word == "import" else b""
+            text = GIVEN.get(word, b"")
             for form in ([f"--book={path}"], ["--book", path]):
                 without = {name: value for name, value in options.items() if name != "--book"}
                 got = sweep.call(program, [*words_of(word, without), *form], text, cwd=folder)

@@ -17,6 +17,20 @@ two_lots() {
     printf '2020-01-02 *\n  Assets:Broker 5 HOOL {100 USD, "%s"}\n  Equity:Start\n' b a
 }
 
+# commodities COUNT: accounts; then so many commodities, each bought, sold and moved as plain units: gains by commodity and activity have as many
+# rows, which no pipe takes whole from 2,000 on.
+commodities() {
+    awk -v count="$1" 'BEGIN {
+        print "2020-01-01 open Assets:Broker \"FIFO\"\n2020-01-01 open Assets:Cash\n2020-01-01 open Equity:Coins"
+        split("  Assets:Broker 1 C%04d {100 USD}\n|  Assets:Broker -1 C%04d {} @ 130 USD\n|  Assets:Cash 1 C%04d\n  Equity:Coins -1 C%04d\n", forms, "|")
+        for (of = 1; of <= 3; of++) for (n = 0; n < count; n++) {
+            if (n % 30 == 0) print (of < 3 && n ? "  Assets:Cash\n" : "") "2020-02-01 *"
+            printf forms[of], n, n
+            if (of < 3 && n == count - 1) print "  Assets:Cash"
+        }
+    }'
+}
+
 # new_book FILE: makes a book there, in the place of what was there, as a step of a case.
 new_book() {
     rm -f "$1" "$1"-{wal,shm,journal}

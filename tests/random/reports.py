@@ -4,9 +4,9 @@
 
 The plain reports are written from docs/FORMATS.md and docs/RULES.md alone, over the entries of the plain judge: each looks over
 all entries of the book. Each ledger is posted to a new book, in two calls, of which the second finds in the file what the first one
-left; then its holdings, with and without days, its gains, whole and in ranges, and its journal are compared, byte for byte, and the
-opening number of each lot in the tables. A case is the ledgers of a hundred seeds, or a kind of row, which has to occur at least some
-times. A difference goes to standard error, with its seed.
+left; then its holdings, with and without days, those of past days, its gains, whole and in ranges, and its journal are compared,
+byte for byte, and the opening number of each lot in the tables. A case is the ledgers of a hundred seeds, or a kind of row, which has
+to occur at least some times. A difference goes to standard error, with its seed.
 """
 
 import collections
@@ -30,6 +30,7 @@ from model import ONE, day_text, key_order, money_text, number_text
 A_CASE = 100  # seeds
 AT_LEAST = 3  # times that each kind occurs
 FIRST_DAY, LAST_DAY = (1, 1, 1), (9999, 12, 31)
+BEYOND = "fault P1 Range"  # with status 4
 
 KINDS = (
     "a price of each unit", "a total price", "no price", "a price in another currency than that of a lot", "lots of several currencies",
@@ -40,6 +41,7 @@ KINDS = (
     "a price that was replaced", "a later price that doesn't count", "plain units of a commodity with lots", "nothing held",
     "an entry of Opening", "an entry of Closing", "an entry of Declaring", "an entry of Quoting", "an entry of Transaction",
     "a refused command before an entry", "lots of one day in another order than that of their openings",
+    "a past day", "a past day with an entry behind a later one",
 )
 
 
@@ -72,10 +74,26 @@ def price_at(book, day, base, quote, seen):
     return rates[-1]
 
 
-def holdings(book, day, seen):
-    """The lines of the holdings, with values where there is a day."""
+def up_to(book, last, seen):
+    """The entries with days up to this one, in their order; all of them where there is none."""
+    entries = [entry for entry in book if last is None or entry.command.day <= last]
+    seen["a past day"] += len(entries) < len(book)
+    seen["a past day with an entry behind a later one"] += len(entries) < len(book) and book[: len(entries)] != entries
+    return entries
+
+
+def is_beyond(held):
+    """Whether a position is beyond units, as one of a past day may be."""
+    units = [*held.plain.values(), *(units for lots in held.lots.values() for units in lots.values())]
+    return any(abs(of_one) >= model.UNITS_LIMIT for of_one in units)
+
+
+def holdings(book, day, seen, last=None):
+    """The lines of the holdings, or of what was held at the end of the last day, with values where there is a day."""
     lines, costs, values = [], {}, {}
-    held = model.Held(book)
+    held = model.Held(up_to(book, last, seen))
+    if is_beyond(held):
+        return [BEYOND]
     for pair in held.pairs():
         account, commodity = pair
         lots = held.lots_of(pair)
@@ -293,6 +311,9 @@ def compare(program, scratch, seed):
     days, ranges = asked(rng, drawing.book)
     reports = [(["holdings"], holdings(drawing.book, None, seen)), (["journal"], journal(drawing.judged, seen))]
     reports += [(["holdings", "--day", day_text(day)], holdings(drawing.book, day, seen)) for day in days]
+    reports += [(["holdings", "--as-of", day_text(day)], holdings(drawing.book, day, seen, day)) for day in days]
+    words = ["holdings", "--as-of", day_text(days[0]), "--day", day_text(days[1])]
+    reports.append((words, holdings(drawing.book, days[1], seen, days[0])))
     for first, last in ranges:
         reports.append((["gains", "--first", day_text(first), "--last", day_text(last)], gains(drawing.book, first, last, seen)))
     reports.append((["gains"], gains(drawing.book, FIRST_DAY, LAST_DAY, seen)))
@@ -304,7 +325,7 @@ def compare(program, scratch, seed):
     found = ""
     for words, lines, got in cases:
         report = "".join(line + "\n" for line in lines)
-        if got != (report, 0, ""):
+        if got != (report, 4 if lines == [BEYOND] else 0, ""):
             found += f"--- {' '.join(words)}, wanted\n{report}--- got, status {got[1]}\n{got[0]}{got[2]}"
     return found and text.decode() + found, collections.Counter(kind for kind in seen if seen[kind])
 

@@ -12,10 +12,12 @@ import notes  # noqa: E402  (the folders are named above)
 import tables  # noqa: E402
 
 RESTORED = "book restored"
-WORDS = ("holdings", "gains", "journal", "dump", "verify", "migrate", "post", "import")
+WORDS = ("holdings", "gains", "register", "activity", "reconcile", "journal", "dump", "verify", "migrate", "post", "import")
 ACCOUNTS = "--invest Assets:Broker --cash Assets:Cash --fees Expenses:Fees --gains Income:Gains".split()
-NEEDED = {"post": ["--batch", "x"], "import": ["--batch", "x", *ACCOUNTS]}
+BELOW = ["--account", "Assets:"]
+NEEDED = {"post": ["--batch", "x"], "import": ["--batch", "x", *ACCOUNTS], "register": BELOW, "reconcile": BELOW}
 HEADER = b"ref,date,action,symbol,units,price,currency,fee\n"
+GIVEN = {"import": HEADER, "reconcile": b"commodity,units\n"}
 
 
 def call(program, words, text=b"", **others):
@@ -108,8 +110,7 @@ def fault_of_unfinished(program, path):
     """What is wrong where the file at this path has to be none that another word takes, or nothing. Each word is tried on a copy."""
     for word in WORDS:
         copy = tables.copied(path, path + ".asked", tables.ENDS)
-        text = HEADER if word == "import" else b""
-        output, status, messages = call(program, [word, "--book", copy, *NEEDED.get(word, [])], text)
+        output, status, messages = call(program, [word, "--book", copy, *NEEDED.get(word, [])], GIVEN.get(word, b""))
         tables.removed(copy)
         if (output, status) != (b"fault S1 NotABook\n", 4) or notes.without(messages):
             return f"{word}: status {status}, {output[-80:]}, {messages[-80:]}"

@@ -1,3 +1,4 @@
+mod AccountLemmas
 mod HelpLemmas
 mod ProgramLemmas
 mod RequiredLemmas

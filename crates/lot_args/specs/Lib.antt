@@ -7,6 +7,7 @@ pub mod Program
 pub mod Required
 pub mod Table
 pub mod Keys
+pub mod Activity
 pub mod Options
 pub mod Faults
 pub mod Words

@@ -5,7 +5,8 @@ use Rattle.std.specs.List.{list_all}
 use Rattle.std.specs.Option.{option_map_or}
 use Rattle.clap.specs.Words.{Row, Text, all_of, first_of}
 use Rattle.lot_base.specs.Day.{named_day}
-use Rattle.lot_base.specs.Name.{is_account, is_label}
+use Rattle.lot_base.specs.Name.{is_account, is_commodity, is_label}
+use Rattle.lot_args.specs.Activity.{length_named, names_account}
 use Rattle.lot_args.specs.Batch.{is_batch}
 use Rattle.lot_args.specs.From.{from_of}
 use Rattle.lot_args.specs.Keys.{are_keys}
@@ -16,7 +17,7 @@ use Rattle.lot_without.specs.declared.value.By.TheVariants.{Key, Batch as ByBatc
 use Rattle.lot_args.specs.declared.fault.BadOption.{BadOption}
 use Rattle.lot_args.specs.declared.fault.Needed.{Needed}
 use Rattle.lot_args.specs.declared.fault.Needed.TheVariants.{Accounts, Book, BatchOrRow}
-use Rattle.lot_args.specs.declared.fault.BadOption.TheVariants.{Show, KeepAccepted, Batch, PostBatch, RowOf, Ref, From, Invest, Cash, Fees, Gains, Except, Rounding, Within, Decimals, Day, First, Last, By, Format, Without, WithoutBatch, WithoutEntries}
+use Rattle.lot_args.specs.declared.fault.BadOption.TheVariants.{Show, KeepAccepted, Batch, PostBatch, RowOf, Ref, From, Invest, Cash, Fees, Gains, Except, Rounding, Within, Decimals, Account, Commodity, Day, AsOf, First, Last, By, Period, Format, Without, WithoutBatch, WithoutEntries}
 
 -- ---- values
 
@@ -55,10 +56,14 @@ name_of Except = codes "except"
 name_of Rounding = codes "rounding"
 name_of Within = codes "within"
 name_of Decimals = codes "decimals"
+name_of Account = codes "account"
+name_of Commodity = codes "commodity"
 name_of Day = codes "day"
+name_of AsOf = codes "as-of"
 name_of First = codes "first"
 name_of Last = codes "last"
 name_of By = codes "by"
+name_of Period = codes "by"
 name_of Format = codes "format"
 name_of Without = codes "without"
 name_of WithoutBatch = codes "without-batch"
@@ -142,10 +147,14 @@ is_good rows Except = list_all is_label (except_of rows)
 is_good rows Rounding = not (has_rounding rows) || (not (has_profile rows) && has_account (codes "rounding") rows)
 is_good rows Within = if has_rounding rows then has_bound rows else not (is_given (codes "within") rows)
 is_good rows Decimals = has_rounding rows || not (is_given (codes "decimals") rows)
+is_good rows Account = option_map_or names_account (first_of (codes "account") rows) true
+is_good rows Commodity = option_map_or is_commodity (first_of (codes "commodity") rows) true
 is_good rows Day = has_day (codes "day") rows
+is_good rows AsOf = has_day (codes "as-of") rows
 is_good rows First = has_day (codes "first") rows
 is_good rows Last = has_day (codes "last") rows
 is_good rows By = option_map_or are_keys (first_of (codes "by") rows) true
+is_good rows Period = option_map_or (λ text. is_some (length_named text)) (first_of (codes "by") rows) true
 is_good rows Format = option_map_or is_format (first_of (codes "format") rows) true
 is_good rows Without = all_name_entries Key (codes "without") rows
 is_good rows WithoutBatch = all_name_entries ByBatch (codes "without-batch") rows
@@ -166,9 +175,12 @@ options_of word =
     if bytes_eq word (codes "post") then PostBatch ∷ RowOf ∷ Ref ∷ (rounding_options ++ From ∷ [])
     else (if bytes_eq word (codes "import")
     then Show ∷ KeepAccepted ∷ Batch ∷ (account_options ++ Except ∷ (rounding_options ++ From ∷ []))
-    else (if bytes_eq word (codes "holdings") then Day ∷ Format ∷ []
+    else (if bytes_eq word (codes "holdings") then AsOf ∷ Day ∷ Format ∷ []
     else (if bytes_eq word (codes "gains") then First ∷ Last ∷ By ∷ Format ∷ []
-    else (if bytes_eq word (codes "restore") then Without ∷ WithoutBatch ∷ WithoutEntries ∷ [] else []))))
+    else (if bytes_eq word (codes "register") then Account ∷ Commodity ∷ First ∷ Last ∷ Format ∷ []
+    else (if bytes_eq word (codes "activity") then Account ∷ First ∷ Last ∷ Period ∷ Format ∷ []
+    else (if bytes_eq word (codes "reconcile") then Account ∷ AsOf ∷ Format ∷ []
+    else (if bytes_eq word (codes "restore") then Without ∷ WithoutBatch ∷ WithoutEntries ∷ [] else [])))))))
 
 -- the first of the options whose value is outside its rule
 abbrev pub first_bad : List Row → List BadOption → Option BadOption

@@ -81,18 +81,35 @@ abbrev pub import_app : App
 import_app = word_app (codes "import") import_rules
 
 abbrev pub holdings_app : App
-holdings_app = book_app (codes "holdings") (option_rule (codes "day") ∷ option_rule (codes "format") ∷ [])
+holdings_app =
+    book_app (codes "holdings") (option_rule (codes "as-of") ∷ option_rule (codes "day") ∷ option_rule (codes "format") ∷ [])
 
 abbrev pub gains_app : App
 gains_app =
     book_app (codes "gains")
     (option_rule (codes "first") ∷ option_rule (codes "last") ∷ option_rule (codes "by") ∷ option_rule (codes "format") ∷ [])
 
+abbrev pub register_app : App
+register_app =
+    book_app (codes "register")
+    (required_rule (codes "account") ∷ option_rule (codes "commodity") ∷ option_rule (codes "first") ∷ option_rule (codes "last")
+    ∷ option_rule (codes "format") ∷ [])
+
+abbrev pub activity_app : App
+activity_app =
+    book_app (codes "activity")
+    (option_rule (codes "account") ∷ option_rule (codes "first") ∷ option_rule (codes "last") ∷ option_rule (codes "by")
+    ∷ option_rule (codes "format") ∷ [])
+
 abbrev pub journal_app : App
 journal_app = book_app (codes "journal") []
 
 abbrev pub dump_app : App
 dump_app = book_app (codes "dump") []
+
+abbrev pub reconcile_app : App
+reconcile_app =
+    book_app (codes "reconcile") (required_rule (codes "account") ∷ option_rule (codes "as-of") ∷ option_rule (codes "format") ∷ [])
 
 abbrev pub restore_app : App
 restore_app =
@@ -126,5 +143,5 @@ bare_app = with_rules named_app (flag_rule (codes "quiet") ∷ (rounding_rules +
 abbrev pub program_app : App
 program_app =
     with_words bare_app
-    (init_app ∷ migrate_app ∷ post_app ∷ import_app ∷ holdings_app ∷ gains_app ∷ journal_app
-    ∷ dump_app ∷ restore_app ∷ verify_app ∷ explain_app ∷ [])
+    (init_app ∷ migrate_app ∷ post_app ∷ import_app ∷ holdings_app ∷ gains_app ∷ register_app ∷ activity_app
+    ∷ journal_app ∷ dump_app ∷ reconcile_app ∷ restore_app ∷ verify_app ∷ explain_app ∷ [])

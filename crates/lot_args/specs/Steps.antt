@@ -13,8 +13,8 @@ IsOneOf (name ∷ names) word = (word ≡ name) ⊎ IsOneOf names word
 -- the words on a book
 abbrev pub book_words : List Text
 book_words =
-    codes "init" ∷ codes "migrate" ∷ codes "post" ∷ codes "import" ∷ codes "holdings" ∷ codes "gains" ∷ codes "journal"
-    ∷ codes "dump" ∷ codes "restore" ∷ codes "verify" ∷ []
+    codes "init" ∷ codes "migrate" ∷ codes "post" ∷ codes "import" ∷ codes "holdings" ∷ codes "gains" ∷ codes "register"
+    ∷ codes "activity" ∷ codes "journal" ∷ codes "dump" ∷ codes "reconcile" ∷ codes "restore" ∷ codes "verify" ∷ []
 
 -- there is such a word on a book
 abbrev pub IsBookWord : Text → Type 0

@@ -1,5 +1,5 @@
 -- What words ask for: what the values matched by `clap` name, and the option whose value is outside its rule.
-use Rattle.std.specs.Prelude.{◌≡◌, ◌||◌, ◌++◌, if◌then◌else◌, ℕ, Bool, false, true, List, [], Option, Some, None, codes, filter_map, option_and_then, option_map}
+use Rattle.std.specs.Prelude.{◌≡◌, ◌||◌, ◌++◌, if◌then◌else◌, ℕ, Bool, false, true, List, [], Option, Some, None, codes, filter_map, option_and_then, option_map, unwrap_or}
 use Rattle.std.specs.Str.{bytes_eq}
 use Rattle.std.specs.String.{string_bytes}
 use Rattle.clap.specs.Words.{Row, Text, fault_of, first_of, matches_of, subcommand_of}
@@ -12,6 +12,7 @@ use Rattle.lot_without.specs.declared.terms.Tolerance.TheVariants.{AllAccepted, 
 use Rattle.lot_without.specs.declared.value.By.{By}
 use Rattle.lot_without.specs.declared.value.By.TheVariants.{Key, Batch, Entries}
 use Rattle.lot_without.specs.declared.without.Without.{Without}
+use Rattle.lot_args.specs.Activity.{length_of}
 use Rattle.lot_args.specs.From.{from_of}
 use Rattle.lot_args.specs.Keys.{keys_of}
 use Rattle.lot_args.specs.Options.{day_of, except_of, first_bad, has_profile, has_row, is_given, is_set, is_shown, misplaced, missing_of, options_of, rounding_options, value_of, values_of}
@@ -19,9 +20,9 @@ use Rattle.lot_args.specs.Program.{program_app}
 use Rattle.lot_args.specs.Rounding.{rounding_of}
 use Rattle.lot_args.specs.declared.action.Action.{Action}
 use Rattle.lot_args.specs.declared.action.AskedImport.{AskedImport}
-use Rattle.lot_args.specs.declared.action.Action.TheVariants.{Check, Init, Migrate, Post, PostRow, Import, ImportBy, Report as Reporting, Restore, Verify}
+use Rattle.lot_args.specs.declared.action.Action.TheVariants.{Check, Init, Migrate, Post, PostRow, Import, ImportBy, Report as Reporting, Reconcile, Restore, Verify}
 use Rattle.lot_args.specs.declared.action.Report.{Report}
-use Rattle.lot_args.specs.declared.action.Report.TheVariants.{Holdings, Gains, GainsBy, Journal, Dump}
+use Rattle.lot_args.specs.declared.action.Report.TheVariants.{Holdings, HoldingsOn, Gains, GainsBy, Register, Activity, Journal, Dump}
 use Rattle.lot_args.specs.declared.action.Format.{Format}
 use Rattle.lot_args.specs.declared.action.Format.TheVariants.{Text as AsText, Csv}
 use Rattle.lot_args.specs.declared.action.Keeping.{Keeping}
@@ -112,13 +113,23 @@ IsBook rows path = path ≡ value_of (codes "book") rows
 -- a word with the values of its options asks for the report
 abbrev pub AsksForReport : Text → List Row → Report → Type 0
 AsksForReport word rows (Holdings day format) =
-    (word ≡ codes "holdings") × (day ≡ day_of (codes "day") rows) × (format ≡ format_of rows)
+    (word ≡ codes "holdings") × (day_of (codes "as-of") rows ≡ None) × (day ≡ day_of (codes "day") rows) × (format ≡ format_of rows)
+AsksForReport word rows (HoldingsOn on day format) =
+    (word ≡ codes "holdings") × (day_of (codes "as-of") rows ≡ Some on) × (day ≡ unwrap_or (day_of (codes "day") rows) on)
+    × (format ≡ format_of rows)
 AsksForReport word rows (Gains first last format) =
     (word ≡ codes "gains") × (is_given (codes "by") rows ≡ false) × (first ≡ day_of (codes "first") rows)
     × (last ≡ day_of (codes "last") rows) × (format ≡ format_of rows)
 AsksForReport word rows (GainsBy first last by format) =
     (word ≡ codes "gains") × (is_given (codes "by") rows ≡ true) × (first ≡ day_of (codes "first") rows)
     × (last ≡ day_of (codes "last") rows) × (by.items ≡ keys_of rows) × (format ≡ format_of rows)
+AsksForReport word rows (Register account commodity first last format) =
+    (word ≡ codes "register") × (string_bytes account ≡ value_of (codes "account") rows)
+    × (commodity ≡ first_of (codes "commodity") rows) × (first ≡ day_of (codes "first") rows)
+    × (last ≡ day_of (codes "last") rows) × (format ≡ format_of rows)
+AsksForReport word rows (Activity account length first last format) =
+    (word ≡ codes "activity") × (option_map string_bytes account ≡ first_of (codes "account") rows) × (length ≡ length_of rows)
+    × (first ≡ day_of (codes "first") rows) × (last ≡ day_of (codes "last") rows) × (format ≡ format_of rows)
 AsksForReport word rows Journal = word ≡ codes "journal"
 AsksForReport word rows Dump = word ≡ codes "dump"
 
@@ -140,6 +151,9 @@ WordAsks word rows (Import import) =
     × (import.rounding ≡ rounding_of rows) × (import.keeping ≡ keeping_of rows)
 WordAsks word rows (ImportBy import) = ⊥
 WordAsks word rows (Reporting book report) = IsBook rows (string_bytes book) × AsksForReport word rows report
+WordAsks word rows (Reconcile asked) =
+    (word ≡ codes "reconcile") × IsBook rows (string_bytes asked.book) × (string_bytes asked.account ≡ value_of (codes "account") rows)
+    × (asked.day ≡ day_of (codes "as-of") rows) × (asked.format ≡ format_of rows)
 WordAsks word rows (Restore restore) =
     (word ≡ codes "restore") × IsBook rows (string_bytes restore.book) × (restore.without.items ≡ without_of rows)
     × (restore.strictness ≡ strictness_of rows) × (restore.tolerance ≡ tolerance_of rows)

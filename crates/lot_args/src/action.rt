@@ -2,8 +2,9 @@ ghost use Rattle.std.specs.Prelude.{◌≡◌};
 
 use crate::batch::Batch;
 use crate::start::Start;
-use lot_base::{Day, Label};
+use lot_base::{Commodity, Day, Label};
 use lot_import::Accounts;
+use lot_period::PeriodLength;
 use lot_profile::Profile;
 use lot_rounding::Rounding;
 use lot_tally::GainKey;
@@ -129,12 +130,29 @@ pub struct Restore {
     pub compare: Option<String>,
 }
 
+/// A statement of what an account holds, which is compared with a book.
+#[derive(Drop)]
+pub struct Reconcile {
+    pub book: String,
+    /// The account. With a colon at its end it stands for every account whose name begins with it.
+    pub account: String,
+    /// The last day that is counted, or none where all are.
+    pub day: Option<Day>,
+    pub format: Format,
+}
+
 /// A report of a book. It is read, and stays as it is.
 #[derive(Drop)]
 pub enum Report {
     /// What it holds. With a day, also what its lots are worth on it.
     Holdings {
         day: Option<Day>,
+        format: Format,
+    },
+    /// What it held at the end of a day, and what its lots were worth at the prices of a day.
+    HoldingsOn {
+        on: Day,
+        day: Day,
         format: Format,
     },
     /// What its sales gained from the first day to the last, both included. Without a day that end of the range is open.
@@ -148,6 +166,26 @@ pub enum Report {
         first: Option<Day>,
         last: Option<Day>,
         by: Vec<GainKey>,
+        format: Format,
+    },
+    /// The legs of an account in the order of days, from the first day to the last, both included, each with what is left behind
+    /// it. Without a day that end of the range is open. With a colon at its end the account stands for every account whose name
+    /// begins with it. With a commodity, those of that one alone.
+    Register {
+        account: String,
+        commodity: Option<Commodity>,
+        first: Option<Day>,
+        last: Option<Day>,
+        format: Format,
+    },
+    /// What went into accounts and out of them in plain units, by periods of that length, from the first day to the last, both
+    /// included. Without a day that end of the range is open. With a colon at its end the account stands for every account whose
+    /// name begins with it. Without an account the report is of all.
+    Activity {
+        account: Option<String>,
+        length: PeriodLength,
+        first: Option<Day>,
+        last: Option<Day>,
         format: Format,
     },
     /// Its entries.
@@ -190,6 +228,8 @@ pub enum Action {
         book: String,
         report: Report,
     },
+    /// What differs between a statement and a book is written.
+    Reconcile(Reconcile),
     /// A book is made of a dump.
     Restore(Restore),
     /// A book is judged again from its entries, and every table is compared.

@@ -39,14 +39,22 @@ pub enum BadOption {
     Within,
     /// `--decimals`: `--rounding` isn't given.
     Decimals,
+    /// `--account`: its value is neither an account nor what accounts begin with, up to a colon.
+    Account,
+    /// `--commodity`: its value isn't a commodity.
+    Commodity,
     /// `--day`: its value isn't a day.
     Day,
+    /// `--as-of`: its value isn't a day.
+    AsOf,
     /// `--first`: its value isn't a day.
     First,
     /// `--last`: its value isn't a day.
     Last,
     /// `--by`: its value isn't a list of keys joined by commas.
     By,
+    /// `--by` of `activity`: its value is neither `year`, `quarter` nor `month`.
+    Period,
     /// `--format`: its value is neither `text` nor `csv`.
     Format,
     /// `--without`: one of its values isn't a key.
@@ -77,10 +85,13 @@ impl BadOption {
             BadOption::Rounding => "rounding",
             BadOption::Within => "within",
             BadOption::Decimals => "decimals",
+            BadOption::Account => "account",
+            BadOption::Commodity => "commodity",
             BadOption::Day => "day",
+            BadOption::AsOf => "as-of",
             BadOption::First => "first",
             BadOption::Last => "last",
-            BadOption::By => "by",
+            BadOption::By | BadOption::Period => "by",
             BadOption::Format => "format",
             BadOption::Without => "without",
             BadOption::WithoutBatch => "without-batch",

@@ -26,7 +26,8 @@ mod without;
 mod words;
 
 pub use action::{
-    Action, AskedImport, Format, Import, ImportBy, Keeping, Post, Report, Restore, Saying,
+    Action, AskedImport, Format, Import, ImportBy, Keeping, Post, Reconcile, Report, Restore,
+    Saying,
 };
 pub use batch::Batch;
 pub use fault::{BadOption, Needed, WordsFault};

@@ -56,7 +56,7 @@ const PROGRAM: Word = Word {
 };
 
 /// The subcommands, in the order in which the help lists them.
-const WORDS: [Word; 11] = [
+const WORDS: [Word; 14] = [
     // `init --book FILE [--dry-run]`
     Word {
         name: "init",
@@ -133,18 +133,23 @@ const WORDS: [Word; 11] = [
         about: "Posts the rows of a broker file (CSV) from standard input to a book. What a broker prints needs a profile, which says what its columns and rows are: lotbook import --book family.book --batch degiro --profile profiles/degiro-transactions.toml < Transactions.csv\n\nSuch an import is kept whole or, where a row is refused, not at all. To see what it would post: lotbook import --profile profiles/degiro-transactions.toml --show < Transactions.csv\n\nWithout a profile the first record has to be ref,date,action,symbol,units,price,currency,fee and optionally lot, and what is accepted is kept, a commit for each row: lotbook import --book family.book --batch broker --invest Assets:Broker --cash Assets:Cash --fees Expenses:Fees --gains Income:Gains < deals.csv\n\nThen the rows have to be in the order of their days, the oldest first: a deal of an earlier day than the last one that was accepted for the same account and symbol is refused.",
         options: IMPORT_OPTIONS,
     },
-    // `holdings --book FILE [--day DAY] [--format text|csv]`
+    // `holdings --book FILE [--as-of DAY] [--day DAY] [--format text|csv]`
     Word {
         name: "holdings",
         brief: "Prints what a book holds now and what it cost",
-        about: "Prints what a book holds now and what it cost: lotbook holdings --book family.book",
+        about: "Prints what a book holds now and what it cost: lotbook holdings --book family.book\n\nWhat it held at the end of a day, and what that was worth then: lotbook holdings --book family.book --as-of 2024-12-31",
         options: &[
             BOOK,
             QUIET,
             WordOption {
                 form: Form::Optional("DAY"),
+                name: "as-of",
+                help: "Prints what was held at the end of that day, as in --as-of 2024-12-31: what the entries with days up to it come to, whenever they were posted. Lots are valued at its prices, unless --day names another day",
+            },
+            WordOption {
+                form: Form::Optional("DAY"),
                 name: "day",
-                help: "The day whose prices value the lots, as in --day 2024-12-31: it chooses prices alone, what is held is as of now. Without it no value is printed",
+                help: "The day whose prices value the lots, as in --day 2024-12-31: it chooses prices alone, what is held is as of now, or of --as-of. Without either no value is printed",
             },
             FORMAT,
         ],
@@ -175,6 +180,68 @@ const WORDS: [Word; 11] = [
             FORMAT,
         ],
     },
+    // `register --book FILE --account ACCOUNT [--commodity COMMODITY] [--first DAY] [--last DAY] [--format text|csv]`
+    Word {
+        name: "register",
+        brief: "Prints what moved an account of a book, leg by leg",
+        about: "Prints what moved an account of a book, leg by leg in the order of days, with what is left behind each: lotbook register --book family.book --account Assets:Broker --first 2024-01-01 --last 2024-12-31\n\nWhat is left counts from the first leg of the book on, of each commodity in each account, plain units and lots together. It takes 16 bytes of memory for each leg of these accounts.",
+        options: &[
+            BOOK,
+            QUIET,
+            WordOption {
+                form: Form::Required("ACCOUNT"),
+                name: "account",
+                help: "The account, as in --account Assets:Broker. With a colon at its end it stands for all accounts whose names begin so, as in --account Assets:",
+            },
+            WordOption {
+                form: Form::Optional("COMMODITY"),
+                name: "commodity",
+                help: "The commodity, as in --commodity HOOL. Without it all commodities are printed",
+            },
+            WordOption {
+                form: Form::Optional("DAY"),
+                name: "first",
+                help: "The first day whose legs are printed, as in --first 2024-01-01. Without it they begin with the first leg",
+            },
+            WordOption {
+                form: Form::Optional("DAY"),
+                name: "last",
+                help: "The last day whose legs are printed, as in --last 2024-12-31. Without it they end with the last leg",
+            },
+            FORMAT,
+        ],
+    },
+    // `activity --book FILE [--account ACCOUNT] [--first DAY] [--last DAY] [--by PERIOD] [--format text|csv]`
+    Word {
+        name: "activity",
+        brief: "Prints what went into accounts of a book and out of them, by period",
+        about: "Prints what went into accounts of a book and out of them in plain units, posting by posting, for each period, account and commodity: lotbook activity --book family.book --account Income: --first 2024-01-01 --last 2024-12-31\n\nDividends, fees and interest of a year are what the accounts for them gave and took. Lots aren't counted: lotbook gains prints what their sales earned.",
+        options: &[
+            BOOK,
+            QUIET,
+            WordOption {
+                form: Form::Optional("ACCOUNT"),
+                name: "account",
+                help: "The account, as in --account Income:Dividends. With a colon at its end it stands for all accounts whose names begin so, as in --account Income:. Without it all accounts are printed",
+            },
+            WordOption {
+                form: Form::Optional("DAY"),
+                name: "first",
+                help: "The first day that is counted, as in --first 2024-01-01. Without it the first day of the book is",
+            },
+            WordOption {
+                form: Form::Optional("DAY"),
+                name: "last",
+                help: "The last day that is counted, as in --last 2024-12-31. Without it the last day of the book is",
+            },
+            WordOption {
+                form: Form::Optional("PERIOD"),
+                name: "by",
+                help: "How long the periods are, as in --by quarter: year, quarter or month. Without it a year",
+            },
+            FORMAT,
+        ],
+    },
     // `journal --book FILE`
     Word {
         name: "journal",
@@ -188,6 +255,27 @@ const WORDS: [Word; 11] = [
         brief: "Prints a whole book as a text that says if it was changed",
         about: "Prints a whole book as ledger text: lotbook dump --book family.book > family.dump\n\nThe first line says of which edition the book is and how many entries it has, the last line the SHA-256 of all before it: a copy that was cut short or changed is known to be. Between them stands the journal, each entry under its key.",
         options: &[BOOK, QUIET],
+    },
+    // `reconcile --book FILE --account ACCOUNT [--as-of DAY] [--format text|csv]`
+    Word {
+        name: "reconcile",
+        brief: "Prints what differs between a statement and a book",
+        about: "Prints what differs between a statement from standard input and what a book holds in an account, plain units and lots together: lotbook reconcile --book family.book --account Assets:Broker --as-of 2024-12-31 < statement.csv\n\nThe first record has to be commodity,units, and each other one has a commodity, which comes once, and how many units of it are held. One that isn't there counts as zero. The status is 1 where something differs, and 0 where nothing does.",
+        options: &[
+            BOOK,
+            QUIET,
+            WordOption {
+                form: Form::Required("ACCOUNT"),
+                name: "account",
+                help: "The account, as in --account Assets:Broker. With a colon at its end it stands for all accounts whose names begin so, as in --account Assets:Broker:",
+            },
+            WordOption {
+                form: Form::Optional("DAY"),
+                name: "as-of",
+                help: "The day of the statement, as in --as-of 2024-12-31: what was held at its end is compared. Without it what is held now is",
+            },
+            FORMAT,
+        ],
     },
     // `restore --book NEW [--edited] [--keep-going] [--without KEY]... [--without-batch SOURCE]... [--without-entries A-B]...
     // [--compare OLD] [--dry-run]`

@@ -2,10 +2,11 @@
 //!
 //! All values are looked at before one is kept: what keeps one knows that it is within its rule.
 ghost use Rattle.std.specs.Prelude.{◌≡◌, false, IfOk, IsTrue, [], ◌∷◌, None, codes, filter_map, map, option_map};
-ghost use Rattle.lot_base.specs.Name.{is_label};
+ghost use Rattle.lot_base.specs.Name.{is_commodity, is_label, is_root};
 ghost use Rattle.std.specs.List.{list_all};
 ghost use Rattle.std.specs.String.{string_bytes};
 ghost use Rattle.clap.specs.Words.{all_of, first_of, found_of, rows_of};
+ghost use Rattle.lot_args.specs.Activity.{is_above_accounts, length_named, length_of, names_account};
 ghost use Rattle.lot_args.specs.Batch.{is_batch};
 ghost use Rattle.lot_args.specs.Options.{account_options, day_of, except_of, first_bad, has_account, has_profile, has_rounding};
 ghost use Rattle.lot_args.specs.Options.{is_format, is_good, is_good_account, is_given, is_set, misplaced, name_of, options_of};
@@ -26,9 +27,10 @@ use crate::request::{Effect, Notes};
 use crate::start::Start;
 use crate::without::all_name_entries;
 use clap::ArgMatches;
-use lot_base::{Account, Day, Label};
+use lot_base::{Account, Commodity, Day, Label};
 use lot_import::Accounts;
 use lot_num::Units;
+use lot_period::PeriodLength;
 use lot_rounding::{Bound, Decimals, Rounding};
 use lot_tally::GainKey;
 use lot_without::{By, Strictness, Tolerance};
@@ -77,13 +79,28 @@ pub(crate) fn options_of(word: &str) -> &'static [BadOption]
             BadOption::Decimals,
             BadOption::From,
         ],
-        "holdings" => &[BadOption::Day, BadOption::Format],
+        "holdings" => &[BadOption::AsOf, BadOption::Day, BadOption::Format],
         "gains" => &[
             BadOption::First,
             BadOption::Last,
             BadOption::By,
             BadOption::Format,
         ],
+        "register" => &[
+            BadOption::Account,
+            BadOption::Commodity,
+            BadOption::First,
+            BadOption::Last,
+            BadOption::Format,
+        ],
+        "activity" => &[
+            BadOption::Account,
+            BadOption::First,
+            BadOption::Last,
+            BadOption::Period,
+            BadOption::Format,
+        ],
+        "reconcile" => &[BadOption::Account, BadOption::AsOf, BadOption::Format],
         "restore" => &[
             BadOption::Without,
             BadOption::WithoutBatch,
@@ -146,12 +163,26 @@ fn is_good(options: &ArgMatches<'_>, option: BadOption) -> bool
         },
         BadOption::Decimals if has_rounding(options) => true,
         BadOption::Within | BadOption::Decimals => !is_given(options, name),
-        BadOption::Day | BadOption::First | BadOption::Last => match given(options, name) {
+        BadOption::Account => match given(options, name) {
+            Some(text) => names_account(text),
+            None => true,
+        },
+        BadOption::Commodity => match given(options, name) {
+            Some(text) => Commodity::is_name(text),
+            None => true,
+        },
+        BadOption::Day | BadOption::AsOf | BadOption::First | BadOption::Last => match given(
+            options, name,
+        ) {
             Some(text) => Day::parse(text).is_ok(),
             None => true,
         },
         BadOption::By => match given(options, name) {
             Some(text) => are_keys(text),
+            None => true,
+        },
+        BadOption::Period => match given(options, name) {
+            Some(text) => length_named(text).is_some(),
             None => true,
         },
         BadOption::Format => match given(options, name) {
@@ -389,6 +420,83 @@ fn key_named(name: &str) -> Option<GainKey>
         "commodity" => Some(GainKey::Commodity),
         "account" => Some(GainKey::Account),
         "term" => Some(GainKey::Term),
+        _ => None,
+    }
+}
+
+/// Returns whether a text names an account, or with a colon at its end all accounts whose names begin with it.
+fn names_account(text: &str) -> bool
+    ensures { result ≡ names_account text.now }
+{
+    match text.strip_suffix(":") {
+        Some(front) => is_above_accounts(front),
+        None => Account::is_name(text),
+    }
+}
+
+/// Returns whether a text stands before a colon in the name of some account.
+fn is_above_accounts(text: &str) -> bool
+    ensures { result ≡ is_above_accounts text.now }
+{
+    is_root(text) || Account::is_name(text)
+}
+
+/// Returns whether a text is the first component of an account.
+#[tactic(auto, unfolding(lot_base::specs::Name::is_root))]
+fn is_root(text: &str) -> bool
+    ensures { result ≡ is_root text.now }
+{
+    matches!(
+        text,
+        "Assets" | "Liabilities" | "Equity" | "Income" | "Expenses"
+    )
+}
+
+/// Returns the commodity that the value of its option names, which is within its rule, or `None` where the option isn't given. The
+/// only error is out of memory.
+pub(crate) fn commodity(
+    alloc: Global,
+    options: &ArgMatches<'_>,
+) -> Result<Option<Commodity>, AllocError>
+    requires { IsTrue (is_good (rows_of (found_of options.now)) BadOption.Commodity) }
+    ensures { IfOk result (λ commodity.
+        commodity ≡ first_of (codes "commodity") (rows_of (found_of options.now))) }
+{
+    match given(options, "commodity") {
+        Some(text) => Ok(Some(commodity_named(alloc, text)?)),
+        None => Ok(None),
+    }
+}
+
+/// Returns the commodity that a text is. The only error is out of memory.
+fn commodity_named(alloc: Global, text: &str) -> Result<Commodity, AllocError>
+    requires { IsTrue (is_commodity text.now) }
+    ensures { IfOk result (λ commodity. commodity ≡ text.now) }
+{
+    match Commodity::new(alloc, text) {
+        Ok(commodity) => Ok(commodity),
+        Err(_) => Err(AllocError),
+    }
+}
+
+/// Returns how long the periods of a report are: years where the option isn't given.
+pub(crate) fn period_length(options: &ArgMatches<'_>) -> PeriodLength
+    ensures { result ≡ length_of (rows_of (found_of options.now)) }
+{
+    match given(options, "by") {
+        Some(text) => length_named(text).unwrap_or(PeriodLength::Year),
+        None => PeriodLength::Year,
+    }
+}
+
+/// Returns the length of periods that has that name.
+fn length_named(name: &str) -> Option<PeriodLength>
+    ensures { result ≡ length_named name.now }
+{
+    match name {
+        "year" => Some(PeriodLength::Year),
+        "quarter" => Some(PeriodLength::Quarter),
+        "month" => Some(PeriodLength::Month),
         _ => None,
     }
 }

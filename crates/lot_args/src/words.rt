@@ -10,15 +10,15 @@ ghost use Rattle.lot_args.specs.Words.{Ask, AskFor, HaveBadIn, HaveMisplaced, La
 ghost use Rattle.lot_args.specs.Words.{AsksForReport, AsksToImport};
 ghost use Rattle.lot_args.specs.declared.fault.WordsFault.TheVariants.{BadValue, Misplaced, MissingOptions, Usage};
 
-use crate::action::{Action, AskedImport, Import, Post, Report, Restore};
+use crate::action::{Action, AskedImport, Import, Post, Reconcile, Report, Restore};
 use crate::fault::{BadOption, WordsFault};
 use crate::needed::{has_profile, has_row, is_shown, missing};
 use crate::program::program;
 use crate::request::{Effect, Request};
 use crate::values::{
-    accounts, batch, day, effect, except, first_bad, format, from, is_given, keeping,
-    keeping_by_profile, keys, misplaced, notes, options_of, reference, rounding, rounding_options,
-    saying, strictness, text, tolerance, value,
+    accounts, batch, commodity, day, effect, except, first_bad, format, from, is_given, keeping,
+    keeping_by_profile, keys, misplaced, notes, options_of, period_length, reference, rounding,
+    rounding_options, saying, strictness, text, tolerance, value,
 };
 use crate::without::without;
 use clap::ArgMatches;
@@ -213,6 +213,14 @@ fn action(alloc: Global, word: &str, options: &ArgMatches<'_>) -> Result<Action,
             book,
             report: gains(alloc, options)?,
         }),
+        "register" => Ok(Action::Report {
+            book,
+            report: register(alloc, options)?,
+        }),
+        "activity" => Ok(Action::Report {
+            book,
+            report: activity(alloc, options)?,
+        }),
         "journal" => Ok(Action::Report {
             book,
             report: Report::Journal,
@@ -221,6 +229,12 @@ fn action(alloc: Global, word: &str, options: &ArgMatches<'_>) -> Result<Action,
             book,
             report: Report::Dump,
         }),
+        "reconcile" => Ok(Action::Reconcile(Reconcile {
+            book,
+            account: String::from_str(alloc, value(options, "account"))?,
+            day: day(options, BadOption::AsOf),
+            format: format(options),
+        })),
         "restore" => Ok(Action::Restore(Restore {
             book,
             without: without(alloc, options)?,
@@ -239,9 +253,18 @@ fn action(alloc: Global, word: &str, options: &ArgMatches<'_>) -> Result<Action,
 fn holdings(options: &ArgMatches<'_>) -> Report
     ensures { AsksForReport (codes "holdings") (rows_of (found_of options.now)) result }
 {
-    Report::Holdings {
-        day: day(options, BadOption::Day),
-        format: format(options),
+    let prices = day(options, BadOption::Day);
+    let format = format(options);
+    match day(options, BadOption::AsOf) {
+        Some(on) => Report::HoldingsOn {
+            on,
+            day: prices.unwrap_or(on),
+            format,
+        },
+        None => Report::Holdings {
+            day: prices,
+            format,
+        },
     }
 }
 
@@ -264,5 +287,32 @@ fn gains(alloc: Global, options: &ArgMatches<'_>) -> Result<Report, AllocError>
         last,
         by: keys(alloc, options)?,
         format,
+    })
+}
+
+/// Returns the report that `register` asks for with values that are within their rules. The only error is out of memory.
+fn register(alloc: Global, options: &ArgMatches<'_>) -> Result<Report, AllocError>
+    requires { first_bad (rows_of (found_of options.now)) (options_of (codes "register")) ≡ None }
+    ensures { IfOk result (AsksForReport (codes "register") (rows_of (found_of options.now))) }
+{
+    Ok(Report::Register {
+        account: String::from_str(alloc, value(options, "account"))?,
+        commodity: commodity(alloc, options)?,
+        first: day(options, BadOption::First),
+        last: day(options, BadOption::Last),
+        format: format(options),
+    })
+}
+
+/// Returns the report that `activity` asks for. The only error is out of memory.
+fn activity(alloc: Global, options: &ArgMatches<'_>) -> Result<Report, AllocError>
+    ensures { IfOk result (AsksForReport (codes "activity") (rows_of (found_of options.now))) }
+{
+    Ok(Report::Activity {
+        account: text(alloc, options, "account")?,
+        length: period_length(options),
+        first: day(options, BadOption::First),
+        last: day(options, BadOption::Last),
+        format: format(options),
     })
 }

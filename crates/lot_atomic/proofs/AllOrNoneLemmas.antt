@@ -1,6 +1,7 @@
 -- Commands that are applied all or none: one more in an open transaction, all of them, and the commit.
 use Rattle.std.proofs.Common.{◌≡◌, ◌≢◌, ◌∙◌, ◌⊎◌, inl, inr, ◌<◌, ◌+◌, ℕ, Bool, true, false, IfErr, IfOk, IsTrue, OnOk, List, [], ◌∷◌, ◌++◌, All, None, Some, Option, Ok, Err, Result, length, map, not, take, drop, get_or, append-nil, refl, sym, ap, subst, subst₂, arith}
 use Rattle.std.proofs.lemmas.Bool.{true≢false}
+use Rattle.std.specs.List.{AllByRecursion}
 use Rattle.sqlite.specs.Effect.{Database}
 use Rattle.sqlite.specs.Held.{Held, state}
 use Rattle.sqlite.specs.State.{HasCleanDisk, IsRolledBack, IsUnchanged, HasCause, KeepsCommit, KeepsCounts, Shows, State, Survives, store_error}
@@ -10,6 +11,7 @@ use Rattle.sqlite.specs.Tree.{Trees}
 use Rattle.sqlite.specs.declared.error.Error.{Error}
 use Rattle.sqlite.specs.declared.error.Error.TheVariants.{SqliteFailure}
 use Rattle.sqlite.specs.declared.error.ErrorCode.TheVariants as code
+use Rattle.sqlite_keyed.proofs.ListLemmas.{all-append}
 use Rattle.sqlite_trees.specs.declared.error.StoreError.{StoreError}
 use Rattle.sqlite_trees.specs.declared.error.StoreError.TheVariants as store
 use Rattle.sqlite.proofs.Callers.{survives_begin}
@@ -23,12 +25,14 @@ use Rattle.lot_book.specs.Facts.{Entry}
 use Rattle.lot_book.specs.Judged.{JudgesOn}
 use Rattle.lot_book.specs.Openings.{AgreesWithOpenings, DecidesByOpening, FactsWithOpenings, IsAcceptedWith, facts_with_openings}
 use Rattle.lot_book.specs.Step.{Refuse, Repeat}
+use Rattle.lot_book.specs.Touched.{pairs_in}
 use Rattle.lot_book.specs.declared.change.Change.{Change}
 use Rattle.lot_book.specs.declared.refusal.Refusal.{Refusal}
 use Rattle.lot_book.specs.declared.verdict.Verdict.{Verdict}
 use Rattle.lot_book.specs.declared.verdict.Verdict.TheVariants.{Accepted, Refused, Repeated}
 use Rattle.lot_laws.proofs.StepOpenings.{step_where_agreed}
 use Rattle.lot_load.specs.Kept.{IsOf, Keeps}
+use Rattle.lot_load.specs.Paired.{AreWholeOrPaired, HaveAllPaired, HavePairedFor, KeepsPaired, whole_pairs}
 use Rattle.lot_load.specs.Tells.{Tells}
 use Rattle.lot_load.specs.declared.kept.Kept.{Kept as KeptOf}
 use Rattle.lot_rounding.specs.declared.asked.Asked.{Asked}
@@ -48,9 +52,9 @@ use Rattle.lot_write.specs.Call.{Stops, WritesAll}
 use Rattle.lot_write.specs.Write.{AreFit, IsGood, written_all}
 use Rattle.lot_write.specs.Writes.{AreNumbered, ListsInOrder, writes_of}
 use Rattle.lot_write.specs.declared.write.Write.{Write}
-use Rattle.lot_atomic.specs.AllOrNone.{AppliesAll, AppliesTurned, ChangesBy, IsTurnedAs, ChangeRows, ChangesRows, FailsByText, IsOfDamagedText, JudgesByText, MeetsDamageFirst, JudgesAllAsked, JudgesAllTurned, JudgesAsked, JudgesFirst, JudgesNext, JudgesTurned, KeepsAll, LacksRoomForNext, LeavesAll, MayKeep, StopsAll, StopsInside, comes_to, ended_by, joined, together}
+use Rattle.lot_atomic.specs.AllOrNone.{AppliesAll, AppliesTurned, ChangesBy, IsTurnedAs, ChangeRows, ChangesRows, FailsByText, IsOfDamagedText, JudgesByText, MeetsDamageFirst, JudgesAllAsked, JudgesAllTurned, JudgesAsked, JudgesFirst, JudgesNext, JudgesPairs, JudgesTurned, KeepsAll, LacksRoomForNext, LeavesAll, MayKeep, StopsAll, StopsInside, comes_to, ended_by, joined, together}
 use Rattle.lot_store.specs.Apply.{HasNoRoomFor, RefusedByDeviceWith, StandsWith, commit_fault_of, commit_outcome, store_fault_of}
-use Rattle.lot_store.specs.ByText.{TurnAllByText}
+use Rattle.lot_store.specs.ByText.{MeetsUnpairedFirst, TurnAllByText}
 use Rattle.lot_store.specs.Damage.{IsOfDamage}
 use Rattle.lot_store.specs.Step.{LeavesTables}
 use Rattle.lot_store.proofs.ByTextLemmas.{has_along, turn_more}
@@ -65,7 +69,8 @@ use Rattle.lot_store.specs.declared.turn.Turn.{Turn}
 use Rattle.lot_store.proofs.ApplyLemmas.{KeepsBook, LooksOn, kept, stands_along, stands_on}
 use Rattle.lot_store.proofs.CommitLemmas.{commit_leaves}
 use Rattle.lot_store.proofs.RunLemmas.{turns_more}
-use Rattle.lot_store.proofs.TurnLemmas.{SaysTurn, all_of, taken}
+use Rattle.lot_store.proofs.PairedLemmas.{all_before, none_whole, paired_before, whole_then}
+use Rattle.lot_store.proofs.TurnLemmas.{SaysTurn, all_of, keeps_both, taken}
 
 -- ---- verdicts together
 
@@ -298,12 +303,13 @@ unread_inside Says Kept KeptThen key command old new fault unlimited read = reco
 -- ---- a command that was handed in
 
 -- without an account it is judged itself
-pub turned_none : (Kept KeptThen : List Entry → Type 0) (asked : Key × Asked) (old new : State) (result : Result Verdict Fault)
-    → JudgesNext Kept KeptThen asked.0 asked.1.command old new result
-    → JudgesByText asked.0 asked.1.command old new result → FailsByText asked.0 old new result → JudgesAsked Kept KeptThen None asked old new result
-turned_none Kept KeptThen asked old new result next text damage = (
+pub turned_none : (kept kept_then : Option KeptOf) (asked : Key × Asked) (old new : State) (result : Result Verdict Fault)
+    → JudgesNext (IsOf kept) (IsOf kept_then) asked.0 asked.1.command old new result
+    → JudgesByText asked.0 asked.1.command old new result → FailsByText asked.0 old new result → JudgesPairs kept kept_then asked.1.command old new result
+    → JudgesAsked kept kept_then None asked old new result
+turned_none kept kept_then asked old new result next text damage pairs = (
   handed asked,
-  record { turns = λ clean entries there. as_handed result entries; next = next; text = text; damage = damage },
+  record { turns = λ clean entries there. as_handed result entries; next = next; text = text; damage = damage; pairs = pairs },
 )
   where
     as_handed : (r : Result Verdict Fault) (entries : List Entry) → IsTurnedAs r None entries asked (handed asked)
@@ -311,23 +317,28 @@ turned_none Kept KeptThen asked old new result next text damage = (
     as_handed (Err fault) entries = inr refl
 
 -- a fault comes as it is worked out what is judged
-pub turned_not : {R : Type 0} (Says : R → Tables → Type 0) (Kept KeptThen : List Entry → Type 0) (rounding : Option Rounding) (asked : Key × Asked) (old new : State)
-    (fault : Fault) → old.step_limit ≡ None → Answers layout Says always AreOfBook old new (Err fault)
-    → JudgesAsked Kept KeptThen rounding asked old new (Err fault)
-turned_not Says Kept KeptThen rounding asked old new fault unlimited read = (
+pub turned_not : {R : Type 0} (Says : R → Tables → Type 0) (kept kept_then : Option KeptOf) (rounding : Option Rounding) (asked : Key × Asked) (old new : State)
+    (fault : Fault) → old.step_limit ≡ None → Answers layout Says always AreOfBook old new (Err fault) → kept_then ≡ None
+    → JudgesAsked kept kept_then rounding asked old new (Err fault)
+turned_not Says kept kept_then rounding asked old new fault unlimited read none = (
   handed asked,
   record {
     turns = λ clean entries there. inr refl;
-    next = unread_inside Says Kept KeptThen asked.0 asked.1.command old new fault unlimited read;
+    next = unread_inside Says (IsOf kept) (IsOf kept_then) asked.0 asked.1.command old new fault unlimited read;
     text = λ clean tables has. tt;
     damage = λ clean tables has damaged. looked_at fault old new (Err (store_fault_of fault)) refl (λ is. read.device clean (ap Err is));
+    pairs = record {
+      unpaired = λ clean tables has unpaired. looked_at fault old new (Err (store_fault_of fault)) refl (λ is. read.device clean (ap Err is));
+      paired = λ clean. tt;
+      whole = λ clean tables has. none_whole kept tables kept_then none;
+    };
   },
 )
 
-module _ (Kept KeptMid KeptThen : List Entry → Type 0) (rounding : Option Rounding) (asked : Key × Asked) (turned : Key × Command) (old mid new : State)
-    (same : HasCleanDisk mid → IsUnchanged old mid) (crash : Survives old mid (λ _. ⊥))
-    (turns : HasCleanDisk mid → (entries : List Entry) → StandsWith Kept old entries → IsTurned rounding entries asked turned × KeptMid entries) where
-  abbrev there_mid : HasCleanDisk mid → (entries : List Entry) → StandsWith Kept old entries → StandsWith KeptMid mid entries
+module _ (kept kept_mid kept_then : Option KeptOf) (rounding : Option Rounding) (asked : Key × Asked) (turned : Key × Command) (old mid new : State)
+    (same : HasCleanDisk mid → IsUnchanged old mid) (crash : Survives old mid (λ _. ⊥)) (keeps : KeepsPaired kept kept_mid old mid)
+    (turns : HasCleanDisk mid → (entries : List Entry) → StandsWith (IsOf kept) old entries → IsTurned rounding entries asked turned × IsOf kept_mid entries) where
+  abbrev there_mid : HasCleanDisk mid → (entries : List Entry) → StandsWith (IsOf kept) old entries → StandsWith (IsOf kept_mid) mid entries
   there_mid clean entries there = (stands_along old mid entries (same clean).0.now_is there.0, (turns clean entries there).1)
 
   keeps_mid : HasCleanDisk mid → KeepsCommit old mid
@@ -339,20 +350,20 @@ module _ (Kept KeptMid KeptThen : List Entry → Type 0) (rounding : Option Roun
   changes_since clean (Ok Repeated) changes = changes ∙ (same clean).0.now_is
   changes_since clean (Ok (Refused refusal)) changes = changes ∙ (same clean).0.now_is
 
-  as_turned : HasCleanDisk mid → (r : Result Verdict Fault) (entries : List Entry) → StandsWith Kept old entries → IsTurnedAs r rounding entries asked turned
+  as_turned : HasCleanDisk mid → (r : Result Verdict Fault) (entries : List Entry) → StandsWith (IsOf kept) old entries → IsTurnedAs r rounding entries asked turned
   as_turned clean (Ok verdict) entries there = (turns clean entries there).0
   as_turned clean (Err fault) entries there = inl (turns clean entries there).0
 
   judged_since : HasCleanDisk mid → (r : Result Verdict Fault)
-      → IfOk r (λ verdict. (entries : List Entry) → StandsWith KeptMid mid entries → (after : List Entry) × JudgesOn entries turned.0 turned.1 verdict after × StandsWith KeptThen new after)
-      → IfOk r (λ verdict. (entries : List Entry) → StandsWith Kept old entries → (after : List Entry) × JudgesOn entries turned.0 turned.1 verdict after × StandsWith KeptThen new after)
+      → IfOk r (λ verdict. (entries : List Entry) → StandsWith (IsOf kept_mid) mid entries → (after : List Entry) × JudgesOn entries turned.0 turned.1 verdict after × StandsWith (IsOf kept_then) new after)
+      → IfOk r (λ verdict. (entries : List Entry) → StandsWith (IsOf kept) old entries → (after : List Entry) × JudgesOn entries turned.0 turned.1 verdict after × StandsWith (IsOf kept_then) new after)
   judged_since clean (Err fault) judged = tt
   judged_since clean (Ok verdict) judged = λ entries there. judged entries (there_mid clean entries there)
 
   rowids_since : HasCleanDisk mid → (r : Result Verdict Fault)
-      → IfOk r (λ verdict. (entries : List Entry) → StandsWith KeptMid mid entries
+      → IfOk r (λ verdict. (entries : List Entry) → StandsWith (IsOf kept_mid) mid entries
       → (count : ℕ) × ChangesRows entries turned.0 turned.1 verdict count × EachStaysInReach count layout.schema mid.now.trees new.now.trees)
-      → IfOk r (λ verdict. (entries : List Entry) → StandsWith Kept old entries
+      → IfOk r (λ verdict. (entries : List Entry) → StandsWith (IsOf kept) old entries
       → (count : ℕ) × ChangesRows entries turned.0 turned.1 verdict count × EachStaysInReach count layout.schema old.now.trees new.now.trees)
   rowids_since clean (Err fault) rowids = tt
   rowids_since clean (Ok verdict) rowids = λ entries there.
@@ -360,10 +371,10 @@ module _ (Kept KeptMid KeptThen : List Entry → Type 0) (rounding : Option Roun
       (it.0, it.1, subst (λ (d : Database). EachStaysInReach it.0 layout.schema d.trees new.now.trees) (same clean).0.now_is it.2)
 
   -- what is judged in its place comes to this
-  pub turned_so : (result : Result Verdict Fault) → JudgesNext KeptMid KeptThen turned.0 turned.1 mid new result
+  pub turned_so : (result : Result Verdict Fault) → JudgesNext (IsOf kept_mid) (IsOf kept_then) turned.0 turned.1 mid new result
       → JudgesByText turned.0 turned.1 mid new result → FailsByText turned.0 mid new result
-      → JudgesAsked Kept KeptThen rounding asked old new result
-  turned_so result next text damage = (
+      → JudgesPairs kept_mid kept_then turned.1 mid new result → JudgesAsked kept kept_then rounding asked old new result
+  turned_so result next text damage pairs = (
     turned,
     record {
       turns = λ clean. as_turned (early clean) result;
@@ -382,6 +393,14 @@ module _ (Kept KeptMid KeptThen : List Entry → Type 0) (rounding : Option Roun
       text = λ clean tables has. text clean tables (has_along old mid tables (same (early clean)).0.now_is has);
       damage = λ clean tables has damaged.
           of_text clean result (damage clean tables (has_along old mid tables (same (early clean)).0.now_is has) damaged);
+      pairs = record {
+        unpaired = λ clean tables has unpaired.
+            of_text clean result
+            (pairs.unpaired clean tables (has_along old mid tables (same (early clean)).0.now_is has)
+            (λ found. unpaired (whole_then kept kept_mid tables (pairs_in turned.1) (keeps (early clean) tables has) found)));
+        paired = λ clean. found_since clean result (pairs.paired clean);
+        whole = keeps_both kept kept_mid kept_then old mid new (λ clean. same (early clean)) early keeps pairs.whole;
+      };
     },
   )
     where
@@ -393,6 +412,14 @@ module _ (Kept KeptMid KeptThen : List Entry → Type 0) (rounding : Option Roun
       early : HasCleanDisk new → HasCleanDisk mid
       early clean = omega (arith, clean, next.crash.clean)
 
+      found_since : HasCleanDisk new → (r : Result Verdict Fault)
+          → OnOk r ((tables : Tables) → Has mid tables → AreWholeOrPaired kept_mid tables (pairs_in turned.1))
+          → OnOk r ((tables : Tables) → Has old tables → AreWholeOrPaired kept tables (pairs_in turned.1))
+      found_since clean (Err fault) found = tt
+      found_since clean (Ok verdict) found = λ tables has.
+          whole_then kept kept_mid tables (pairs_in turned.1) (keeps (early clean) tables has)
+          (found tables (has_along old mid tables (same (early clean)).0.now_is has))
+
       by_device : HasCleanDisk new → (entries : List Entry) (stands : Stands old entries)
           → DiskFailed mid new ⊎ HasNoRoomFor turned.0 turned.1 entries stands.tables mid.now.trees new
           → DiskFailed old new ⊎ HasNoRoomFor turned.0 turned.1 entries stands.tables old.now.trees new
@@ -401,26 +428,27 @@ module _ (Kept KeptMid KeptThen : List Entry → Type 0) (rounding : Option Roun
           inr (subst (λ (d : Database). HasNoRoomFor turned.0 turned.1 entries stands.tables d.trees new) (same (early clean)).0.now_is lacks)
 
 -- with an account what was worked out is judged
-pub turned_with : (kept : Option KeptOf) (KeptThen : List Entry → Type 0) (rounding : Rounding) (key : Key) (asked : Asked) (looked : KeptOf) (turn : Turn) (command : Command)
+pub turned_with : (kept : Option KeptOf) (kept_then : Option KeptOf) (rounding : Rounding) (key : Key) (asked : Asked) (looked : KeptOf) (turn : Turn) (command : Command)
     (old mid new : State) → Tells (SaysTurn kept rounding key asked) old mid (Ok (looked, turn)) → command ≡ judged_of turn asked
-    → (result : Result Verdict Fault) → JudgesNext (Keeps looked) KeptThen key command mid new result
+    → (result : Result Verdict Fault) → JudgesNext (IsOf (Some looked)) (IsOf kept_then) key command mid new result
     → JudgesByText key command mid new result → FailsByText key mid new result
-    → JudgesAsked (IsOf kept) KeptThen (Some rounding) (key, asked) old new result
-turned_with kept KeptThen rounding key asked looked turn command old mid new told is result next text damage =
-    turned_so (IsOf kept) (Keeps looked) KeptThen (Some rounding) (key, asked) (key, command) old mid new (λ clean. told.same clean) told.crash
+    → KeepsPaired kept (Some looked) old mid → JudgesPairs (Some looked) kept_then command mid new result
+    → JudgesAsked kept kept_then (Some rounding) (key, asked) old new result
+turned_with kept kept_then rounding key asked looked turn command old mid new told is result next text damage keeps pairs =
+    turned_so kept (Some looked) kept_then (Some rounding) (key, asked) (key, command) old mid new (λ clean. told.same clean) told.crash keeps
     (λ clean entries there.
     let it = told.says clean there.0.tables there.0.has entries there.0.book there.0.stand there.1 in
     (subst (λ (c : Command). IsTurned (Some rounding) entries (key, asked) (key, c)) (sym is) it.1, it.0))
-    result next text damage
+    result next text damage pairs
 
 -- ---- the first of the commands
 
 -- The first of the commands were judged in an open transaction, each or another in its place. What is kept is of the book after
 -- them, which the tables stand for.
-pub record SoFarInside (Kept : List Entry → Type 0) (rounding : Option Rounding) (asked : List (Key × Asked)) (done : List (Key × Command))
+pub record SoFarInside (kept : Option KeptOf) (rounding : Option Rounding) (asked : List (Key × Asked)) (done : List (Key × Command))
     (old now : State) (verdicts : List Verdict) : Type 0 where
   pub judged : HasCleanDisk now → (entries : List Entry) → Stands old entries
-      → (book : List Entry) × AreTurnedOn rounding entries asked done verdicts book × StandsWith Kept now book
+      → (book : List Entry) × AreTurnedOn rounding entries asked done verdicts book × StandsWith (IsOf kept) now book
       × (count : ℕ) × ChangeRows entries done verdicts book count × EachStaysInReach count layout.schema old.now.trees now.now.trees
   pub inside : HasCleanDisk now → IsTrue now.in_transaction
   pub changes : HasCleanDisk now → together verdicts ≡ Repeats → now.now ≡ old.now
@@ -428,6 +456,9 @@ pub record SoFarInside (Kept : List Entry → Type 0) (rounding : Option Roundin
   -- the tables that they leave of others, whatever these stand for
   pub texts : HasCleanDisk now → (tables : Tables) → Has old tables
       → (after : Tables) × TurnAllByText tables done verdicts after × Has now after
+  -- the pairs that they post to had the same lots in both tables, and so had those of which all is known now
+  pub paired : HasCleanDisk now → (tables : Tables) → Has old tables
+      → AllByRecursion (λ (keyed : Key × Command). HavePairedFor keyed.1 tables) done × HaveAllPaired (whole_pairs kept) tables
   pub crash : Survives old now (λ _. ⊥)
 
 -- one more changes some
@@ -441,23 +472,24 @@ rows_more before (t ∷ ts) [] book after count one turned verdict is judges cha
 rows_more before (t ∷ ts) (v ∷ vs) book after count one turned verdict (mid, on, first, rows, rest, more, sum) judges changes =
     (mid, on, first, rows, one + rest, rows_more mid ts vs book after rest one turned verdict more judges changes, omega (arith, sum))
 
--- what is kept before the first is of any book
-pub inside_none : (Kept : List Entry → Type 0) → ((entries : List Entry) → Kept entries) → (rounding : Option Rounding) (old : State)
-    → (HasCleanDisk old → IsTrue old.in_transaction) → SoFarInside Kept rounding [] [] old old []
-inside_none Kept all rounding old inside = record {
-  judged = λ clean entries stands. (entries, refl, (stands, all entries), 0, (refl, refl), each_in_reach old.now.trees layout.schema.tables);
+-- before the first nothing is kept
+pub inside_none : (rounding : Option Rounding) (old : State)
+    → (HasCleanDisk old → IsTrue old.in_transaction) → SoFarInside None rounding [] [] old old []
+inside_none rounding old inside = record {
+  judged = λ clean entries stands. (entries, refl, (stands, tt), 0, (refl, refl), each_in_reach old.now.trees layout.schema.tables);
   inside = inside;
   changes = λ clean is. refl;
   rest = λ clean. record { was_open = λ live. live; committed = λ live. refl };
   texts = λ clean tables has. (tables, refl, has);
+  paired = λ clean tables has. (tt, tt);
   crash = survives_same old _;
 }
 
-module _ (Kept KeptThen : List Entry → Type 0) (rounding : Option Rounding) (asked : List (Key × Asked)) (done : List (Key × Command)) (old now new : State)
-    (verdicts : List Verdict) (so : SoFarInside Kept rounding asked done old now verdicts) (next : Key × Asked) (turned : Key × Command) where
+module _ (kept kept_then : Option KeptOf) (rounding : Option Rounding) (asked : List (Key × Asked)) (done : List (Key × Command)) (old now new : State)
+    (verdicts : List Verdict) (so : SoFarInside kept rounding asked done old now verdicts) (next : Key × Asked) (turned : Key × Command) where
   -- one more was judged
-  pub inside_next : (verdict : Verdict) → JudgesTurned Kept KeptThen rounding next turned now new (Ok verdict)
-      → SoFarInside KeptThen rounding (asked ++ next ∷ []) (done ++ turned ∷ []) old new (verdicts ++ verdict ∷ [])
+  pub inside_next : (verdict : Verdict) → JudgesTurned kept kept_then rounding next turned now new (Ok verdict)
+      → SoFarInside kept_then rounding (asked ++ next ∷ []) (done ++ turned ∷ []) old new (verdicts ++ verdict ∷ [])
   inside_next verdict it = record {
     judged = λ clean entries stands.
         let was = so.judged (omega (arith, clean, it.next.crash.clean)) entries stands in
@@ -479,11 +511,20 @@ module _ (Kept KeptThen : List Entry → Type 0) (rounding : Option Rounding) (a
         let was = so.texts (omega (arith, clean, it.next.crash.clean)) tables has in
         let one = it.text clean was.0 was.2 in
         (one.0, turn_more tables done verdicts was.0 one.0 turned verdict was.1 one.1, one.2);
+    paired = λ clean tables has.
+        let before : HasCleanDisk now = omega (arith, clean, it.next.crash.clean) in
+        let first = so.paired before tables has in
+        let was = so.texts before tables has in
+        let back = paired_before tables done verdicts was.0 was.1 first.0 in (
+          all-append (λ (keyed : Key × Command). HavePairedFor keyed.1 tables) done (turned ∷ []) first.0
+              (all_before kept tables was.0 (pairs_in turned.1) back first.1 (it.pairs.paired clean was.0 was.2), tt),
+          all_before kept tables was.0 (whole_pairs kept_then) back first.1 (it.pairs.whole clean was.0 was.2),
+        );
     crash = survives_then old now new (λ _. ⊥) (λ _. ⊥) (λ _. ⊥) (λ _ db none. none) (λ _ db none. none) so.crash it.next.crash;
   }
 
   -- a fault comes at the next one
-  pub inside_stops : (fault : Fault) → JudgesTurned Kept KeptThen rounding next turned now new (Err fault) → (more : List (Key × Asked))
+  pub inside_stops : (fault : Fault) → JudgesTurned kept kept_then rounding next turned now new (Err fault) → (more : List (Key × Asked))
       → JudgesAllTurned rounding (asked ++ next ∷ more) (done ++ turned ∷ map handed more) old new verdicts (Err fault)
   inside_stops fault it more = record {
     judged = λ clean entries stands.
@@ -516,6 +557,12 @@ module _ (Kept KeptThen : List Entry → Type 0) (rounding : Option Rounding) (a
           damage = λ damaged.
               of_damage_since old now new (failed_since old now new _ so.crash it.next.crash clean) (Err (store_fault_of fault))
               (it.damage clean was.0 was.2 damaged);
+          paired = (so.paired (omega (arith, clean, it.next.crash.clean)) tables has).0;
+          unpaired = λ unpaired.
+              let first = so.paired (omega (arith, clean, it.next.crash.clean)) tables has in
+              of_damage_since old now new (failed_since old now new _ so.crash it.next.crash clean) (Err (store_fault_of fault))
+              (it.pairs.unpaired clean was.0 was.2 (λ found.
+              unpaired (all_before kept tables was.0 (pairs_in turned.1) (paired_before tables done verdicts was.0 was.1 first.0) first.1 found)));
         };
     crash = survives_then old now new (λ _. ⊥) (λ _. ⊥) (λ _. ⊥) (λ _ db none. none) (λ _ db none. none) so.crash it.next.crash;
   }
@@ -536,7 +583,7 @@ module _ (Kept KeptThen : List Entry → Type 0) (rounding : Option Rounding) (a
         lacks,
       )
 
-      cause : HasCleanDisk new → (entries book : List Entry) → StandsWith Kept now book → (count : ℕ) → ChangeRows entries done verdicts book count
+      cause : HasCleanDisk new → (entries book : List Entry) → StandsWith (IsOf kept) now book → (count : ℕ) → ChangeRows entries done verdicts book count
           → EachStaysInReach count layout.schema old.now.trees now.now.trees → (f : Fault) → fault ≡ f
           → StopsInside f entries done verdicts book (turned ∷ map handed more) old new
       cause clean entries book there count rows reach table.Device is =
@@ -545,7 +592,7 @@ module _ (Kept KeptThen : List Entry → Type 0) (rounding : Option Rounding) (a
       cause clean entries book there count rows reach table.Memory is = tt
 
   -- it was judged, and no memory is left to put its verdict
-  pub inside_full : (verdict : Verdict) → JudgesTurned Kept KeptThen rounding next turned now new (Ok verdict) → (more : List (Key × Asked))
+  pub inside_full : (verdict : Verdict) → JudgesTurned kept kept_then rounding next turned now new (Ok verdict) → (more : List (Key × Asked))
       → JudgesAllTurned rounding (asked ++ next ∷ more) (done ++ turned ∷ map handed more) old new verdicts (Err table.Memory)
   inside_full verdict it more = record {
     judged = λ clean entries stands.
@@ -569,28 +616,37 @@ module _ (Kept KeptThen : List Entry → Type 0) (rounding : Option Rounding) (a
     rest = λ clean. keeps_then old now new (so.rest (omega (arith, clean, it.next.crash.clean))) (it.next.rest clean);
     texts = λ clean tables has.
         let was = so.texts (omega (arith, clean, it.next.crash.clean)) tables has in
-        record { done = done; left = turned ∷ map handed more; split = refl; after = was.0; turn = was.1; damage = λ damaged. tt };
+        record {
+          done = done;
+          left = turned ∷ map handed more;
+          split = refl;
+          after = was.0;
+          turn = was.1;
+          damage = λ damaged. tt;
+          paired = (so.paired (omega (arith, clean, it.next.crash.clean)) tables has).0;
+          unpaired = λ unpaired. tt;
+        };
     crash = survives_then old now new (λ _. ⊥) (λ _. ⊥) (λ _. ⊥) (λ _ db none. none) (λ _ db none. none) so.crash it.next.crash;
   }
 
 -- all were judged
-pub inside_all : (Kept : List Entry → Type 0) (rounding : Option Rounding) (asked : List (Key × Asked)) (done : List (Key × Command)) (old now : State)
-    (verdicts : List Verdict) (sum : Together) → SoFarInside Kept rounding asked done old now verdicts → sum ≡ together verdicts
+pub inside_all : (kept : Option KeptOf) (rounding : Option Rounding) (asked : List (Key × Asked)) (done : List (Key × Command)) (old now : State)
+    (verdicts : List Verdict) (sum : Together) → SoFarInside kept rounding asked done old now verdicts → sum ≡ together verdicts
     → JudgesAllTurned rounding asked done old now verdicts (Ok sum)
-inside_all Kept rounding asked done old now verdicts sum so is = record {
+inside_all kept rounding asked done old now verdicts sum so is = record {
   judged = λ clean entries stands. let was = so.judged clean entries stands in (was.0, was.1, was.2.0);
   sums = is;
   inside = so.inside;
   changes = λ clean repeats. so.changes clean (sym is ∙ repeats);
   rest = so.rest;
-  texts = so.texts;
+  texts = λ clean tables has. let was = so.texts clean tables has in (was.0, was.1, was.2, (so.paired clean tables has).0);
   crash = so.crash;
 }
 
 -- The first commands of a list, so many, were judged. Now it is the turn of the next one.
 module _ (commands : List (Key × Asked)) (index : ℕ) (rounding : Option Rounding) (done : List (Key × Command)) (next other : Key × Asked)
-    (is_next : next ≡ get_or commands index other) (within : index < length commands) (Kept KeptThen : List Entry → Type 0) (old now new : State) (verdicts : List Verdict)
-    (so : SoFarInside Kept rounding (take index commands) done old now verdicts) where
+    (is_next : next ≡ get_or commands index other) (within : index < length commands) (kept kept_then : Option KeptOf) (old now new : State) (verdicts : List Verdict)
+    (so : SoFarInside kept rounding (take index commands) done old now verdicts) where
   of_all : (turned : List (Key × Command)) (result : Result Together Fault)
       → JudgesAllTurned rounding (take index commands ++ next ∷ drop (index + 1) commands) turned old new verdicts result
       → JudgesAllAsked rounding commands old new verdicts result
@@ -598,24 +654,24 @@ module _ (commands : List (Key × Asked)) (index : ℕ) (rounding : Option Round
       (turned, subst (λ (cs : List (Key × Asked)). JudgesAllTurned rounding cs turned old new verdicts result) (all_of commands index next other is_next within) it)
 
   -- a fault comes at it
-  pub stops_at : (fault : Fault) → JudgesAsked Kept KeptThen rounding next now new (Err fault) → JudgesAllAsked rounding commands old new verdicts (Err fault)
+  pub stops_at : (fault : Fault) → JudgesAsked kept kept_then rounding next now new (Err fault) → JudgesAllAsked rounding commands old new verdicts (Err fault)
   stops_at fault it =
-      of_all _ (Err fault) (inside_stops Kept KeptThen rounding (take index commands) done old now new verdicts so next it.0 fault it.1 (drop (index + 1) commands))
+      of_all _ (Err fault) (inside_stops kept kept_then rounding (take index commands) done old now new verdicts so next it.0 fault it.1 (drop (index + 1) commands))
 
   -- it was judged, and no memory is left for its verdict
-  pub full_at : (verdict : Verdict) → JudgesAsked Kept KeptThen rounding next now new (Ok verdict)
+  pub full_at : (verdict : Verdict) → JudgesAsked kept kept_then rounding next now new (Ok verdict)
       → JudgesAllAsked rounding commands old new verdicts (Err table.Memory)
   full_at verdict it =
-      of_all _ (Err table.Memory) (inside_full Kept KeptThen rounding (take index commands) done old now new verdicts so next it.0 verdict it.1 (drop (index + 1) commands))
+      of_all _ (Err table.Memory) (inside_full kept kept_then rounding (take index commands) done old now new verdicts so next it.0 verdict it.1 (drop (index + 1) commands))
 
   -- it was judged
-  pub goes_on_inside : (verdict : Verdict) → JudgesAsked Kept KeptThen rounding next now new (Ok verdict)
-      → (all : List (Key × Command)) × SoFarInside KeptThen rounding (take (index + 1) commands) all old new (verdicts ++ verdict ∷ [])
+  pub goes_on_inside : (verdict : Verdict) → JudgesAsked kept kept_then rounding next now new (Ok verdict)
+      → (all : List (Key × Command)) × SoFarInside kept_then rounding (take (index + 1) commands) all old new (verdicts ++ verdict ∷ [])
   goes_on_inside verdict it = (
     done ++ it.0 ∷ [],
-    subst (λ (cs : List (Key × Asked)). SoFarInside KeptThen rounding cs (done ++ it.0 ∷ []) old new (verdicts ++ verdict ∷ []))
+    subst (λ (cs : List (Key × Asked)). SoFarInside kept_then rounding cs (done ++ it.0 ∷ []) old new (verdicts ++ verdict ∷ []))
         (sym (taken commands index next other is_next within))
-        (inside_next Kept KeptThen rounding (take index commands) done old now new verdicts so next it.0 verdict it.1),
+        (inside_next kept kept_then rounding (take index commands) done old now new verdicts so next it.0 verdict it.1),
   )
 
 -- ---- the end of the transaction
@@ -692,7 +748,7 @@ module _ {S : Type 0} (g : Ghosts S) (old last fin : Held S) (rounding : Option 
       rest = λ clean. (sym it.sums, as_before it.rest (early clean) clean (back clean));
       in_doubt = λ clean is. cc;
       usable = λ is. cc;
-      texts = λ clean tables has. let was = it.texts (early clean) tables (has_begun tables has) in (was.0, was.1);
+      texts = λ clean tables has. let was = it.texts (early clean) tables (has_begun tables has) in (was.0, was.1, was.3);
       crash = nothing_left _ it.crash;
     }
 
@@ -715,6 +771,7 @@ module _ {S : Type 0} (g : Ghosts S) (old last fin : Held S) (rounding : Option 
             was.1,
             λ opened. has_along (state g last) (state g fin) was.0
                 ((as_before it.rest (early clean) clean (back clean) opened).0 ∙ sym (it.changes (early clean) refl)) was.2,
+            was.3,
           );
       crash = nothing_left _ it.crash;
     }
@@ -730,7 +787,16 @@ module _ {S : Type 0} (g : Ghosts S) (old last fin : Held S) (rounding : Option 
       usable = λ is. let none : store_fault_of fault ≡ NeedsReopen = cc in used fault none;
       texts = λ clean tables has.
           let was = it.texts (early clean) tables (has_begun tables has) in
-          record { done = was.done; left = was.left; split = was.split; after = was.after; turn = was.turn; damage = first was.after was.left (store_fault_of fault) was.damage };
+          record {
+            done = was.done;
+            left = was.left;
+            split = was.split;
+            after = was.after;
+            turn = was.turn;
+            damage = first was.after was.left (store_fault_of fault) was.damage;
+            paired = was.paired;
+            unpaired = first_pairs tables was.left (store_fault_of fault) was.unpaired;
+          };
       crash = nothing_left _ it.crash;
     }
       where
@@ -746,6 +812,11 @@ module _ {S : Type 0} (g : Ghosts S) (old last fin : Held S) (rounding : Option 
             → MeetsDamageFirst tables left (state g old) (state g fin) f
         first tables [] f meets = tt
         first tables (next ∷ left) f meets = λ damaged. of_text f (meets damaged)
+
+        first_pairs : (tables : Tables) (left : List (Key × Command)) (f : StoreFault)
+            → MeetsUnpairedFirst tables left (state g begun) (state g last) (Err f) → MeetsUnpairedFirst tables left (state g old) (state g fin) (Err f)
+        first_pairs tables [] f meets = tt
+        first_pairs tables (next ∷ left) f meets = λ unpaired. of_text f (meets unpaired)
 
         stops : (f : Fault) (entries : List Entry) (done : List (Key × Command)) (book : List Entry) (left : List (Key × Command))
             → StopsInside f entries done verdicts book left (state g begun) (state g last)
@@ -791,7 +862,7 @@ module _ {S : Type 0} (g : Ghosts S) (old last fin : Held S) (rounding : Option 
       usable = λ is. cc;
       texts = λ clean tables has.
           let was = it.texts (soon clean) tables (has_begun tables has) in
-          (was.0, was.1, λ opened. has_along (state g last) (state g fin) was.0 (shows clean).now_is was.2);
+          (was.0, was.1, (λ opened. has_along (state g last) (state g fin) was.0 (shows clean).now_is was.2), was.3);
       crash = commit_leaves g old begun last fin (MayKeep rounding asked turned verdicts ending.Kept (state g old)) refl it.crash
           (λ clean. (sym it.sums, leaves_all clean)) survives;
     }
@@ -847,7 +918,7 @@ module _ {S : Type 0} (g : Ghosts S) (old last fin : Held S) (rounding : Option 
       usable = λ is. let spent : commit_fault_of e ≡ NeedsReopen = cc in used (commit_fault_of e) (kinds e) spent;
       texts = λ clean tables has.
           let was = it.texts (soon clean) tables (has_begun tables has) in
-          record { done = turned; left = []; split = sym (append-nil turned); after = was.0; turn = was.1; damage = tt };
+          record { done = turned; left = []; split = sym (append-nil turned); after = was.0; turn = was.1; damage = tt; paired = was.3; unpaired = tt };
       crash = commit_leaves g old begun last fin (MayKeep rounding asked turned verdicts (ending.Failed (commit_fault_of e)) (state g old)) refl it.crash
           (λ clean. may_keep (commit_fault_of e) (kinds e) (sym it.sums, leaves_all clean)) survives;
     }

@@ -1,5 +1,6 @@
 -- What commands come to that are applied all or none: judged in their order, and kept in one commit, or not at all.
 use Rattle.std.specs.Prelude.{◌≡◌, ◌≢◌, ◌⊎◌, ℕ, ◌+◌, false, IfOk, IsTrue, List, [], ◌∷◌, ◌++◌, length, OnOk, Option, Result, Ok, Err, ⊤}
+use Rattle.std.specs.List.{AllByRecursion}
 use Rattle.sqlite.specs.State.{HasCleanDisk, KeepsCommit, State, Survives}
 use Rattle.sqlite.specs.Tree.{Trees}
 use Rattle.lot_command.specs.declared.command.Command.{Command}
@@ -10,7 +11,11 @@ use Rattle.lot_book.specs.Openings.{AgreesWithOpenings, FactsWithOpenings, IsAcc
 use Rattle.lot_book.specs.declared.change.Change.{Change}
 use Rattle.lot_book.specs.declared.verdict.Verdict.{Verdict}
 use Rattle.lot_book.specs.declared.verdict.Verdict.TheVariants.{Accepted, Refused, Repeated}
+use Rattle.lot_book.specs.Touched.{pairs_in}
 use Rattle.lot_load.specs.Damage.{HasDamagedText}
+use Rattle.lot_load.specs.Kept.{IsOf}
+use Rattle.lot_load.specs.Paired.{AreWholeOrPaired, FindsPaired, HavePairedFor, KeepsPaired}
+use Rattle.lot_load.specs.declared.kept.Kept.{Kept as Known}
 use Rattle.lot_rows.specs.Tables.{Has, Tables, layout}
 use Rattle.lot_rounding.specs.declared.asked.Asked.{Asked}
 use Rattle.lot_rounding.specs.declared.rounding.Rounding.{Rounding}
@@ -21,7 +26,7 @@ use Rattle.lot_table.specs.declared.fault.Fault.{Fault}
 use Rattle.lot_table.specs.declared.fault.Fault.TheVariants as table
 use Rattle.lot_write.specs.Writes.{writes_of}
 use Rattle.lot_store.specs.Apply.{HasNoRoomFor, RefusedByDeviceWith, StandsWith, store_fault_of}
-use Rattle.lot_store.specs.ByText.{HasTurned, TurnAllByText}
+use Rattle.lot_store.specs.ByText.{HasTurned, MeetsUnpairedFirst, TurnAllByText}
 use Rattle.lot_store.specs.Damage.{IsOfDamage}
 use Rattle.lot_store.specs.Step.{LeavesTables}
 use Rattle.lot_store.specs.Turned.{AreLeft, AreTurnedOn, IsLastTurned, IsTurned}
@@ -86,7 +91,7 @@ pub record JudgesNext (Kept KeptThen : List Entry → Type 0) (key : Key) (comma
   pub device : HasCleanDisk new → result ≡ Err table.Device → RefusedByDeviceWith Kept key command old new
   pub crash : Survives old new (λ _. ⊥)
 
--- what a command comes to under whose key a damaged text stands: a fault, as `apply` has it there
+-- what a command comes to that meets such damage: a fault, as `apply` has it there
 abbrev pub IsOfDamagedText : {A : Type 0} → State → State → Result A Fault → Type 0
 IsOfDamagedText old new (Ok done) = ⊥
 IsOfDamagedText old new (Err fault) = IsOfDamage old new (Err (store_fault_of fault))
@@ -101,24 +106,32 @@ abbrev pub FailsByText : Key → State → State → Result Verdict Fault → Ty
 FailsByText key old new result =
     HasCleanDisk new → (tables : Tables) → Has old tables → HasDamagedText tables key → IsOfDamagedText old new result
 
+-- What is found of the pairs that a command posts to. Where not all was known of some pair, and the tables don't have the same
+-- lots of it, a fault comes.
+pub record JudgesPairs (kept kept_then : Option Known) (command : Command) (old new : State) (result : Result Verdict Fault) : Type 0 where
+  pub unpaired : HasCleanDisk new → (tables : Tables) → Has old tables → ¬ AreWholeOrPaired kept tables (pairs_in command)
+      → IsOfDamagedText old new result
+  pub paired : FindsPaired kept command old new result
+  pub whole : KeepsPaired kept kept_then old new
+
 -- The command that is judged in the place of what was handed in. Where a fault came it may also be what was handed in itself.
 abbrev pub IsTurnedAs : {A : Type 0} → Result A Fault → Option Rounding → List Entry → Key × Asked → Key × Command → Type 0
 IsTurnedAs (Ok done) rounding book asked turned = IsTurned rounding book asked turned
 IsTurnedAs (Err fault) rounding book asked turned = IsLastTurned false rounding book asked turned
 
 -- so is what was handed in, and another command may be judged in its place
-pub record JudgesTurned (Kept KeptThen : List Entry → Type 0) (rounding : Option Rounding) (asked : Key × Asked)
+pub record JudgesTurned (kept kept_then : Option Known) (rounding : Option Rounding) (asked : Key × Asked)
     (turned : Key × Command) (old new : State) (result : Result Verdict Fault) : Type 0 where
-  pub turns : HasCleanDisk new → (entries : List Entry) → StandsWith Kept old entries
+  pub turns : HasCleanDisk new → (entries : List Entry) → StandsWith (IsOf kept) old entries
       → IsTurnedAs result rounding entries asked turned
-  pub next : JudgesNext Kept KeptThen turned.0 turned.1 old new result
+  pub next : JudgesNext (IsOf kept) (IsOf kept_then) turned.0 turned.1 old new result
   pub text : JudgesByText turned.0 turned.1 old new result
   pub damage : FailsByText turned.0 old new result
+  pub pairs : JudgesPairs kept kept_then turned.1 old new result
 
-abbrev pub JudgesAsked : (Kept KeptThen : List Entry → Type 0) → Option Rounding → Key × Asked → State → State
-    → Result Verdict Fault → Type 0
-JudgesAsked Kept KeptThen rounding asked old new result =
-    (turned : Key × Command) × JudgesTurned Kept KeptThen rounding asked turned old new result
+abbrev pub JudgesAsked : Option Known → Option Known → Option Rounding → Key × Asked → State → State → Result Verdict Fault → Type 0
+JudgesAsked kept kept_then rounding asked old new result =
+    (turned : Key × Command) × JudgesTurned kept kept_then rounding asked turned old new result
 
 -- the verdict of an answer that tells something else, too
 abbrev pub verdict_in : {A : Type 0} → Result (Verdict × A) Fault → Result Verdict Fault
@@ -198,11 +211,15 @@ pub record FailsByTextFirst (tables : Tables) (turned : List (Key × Command)) (
   pub after : Tables
   pub turn : TurnAllByText tables done verdicts after
   pub damage : MeetsDamageFirst after left old new fault
+  -- each account and commodity that those post to has the same lots in both tables before them all
+  pub paired : AllByRecursion (λ (keyed : Key × Command). HavePairedFor keyed.1 tables) done
+  pub unpaired : MeetsUnpairedFirst tables left old new (Err fault)
 
 -- what commands come to in a transaction on tables, whatever these stand for
 abbrev pub ComesByTextInside : Tables → List (Key × Command) → State → State → List Verdict → Result Together Fault → Type 0
 ComesByTextInside tables turned old new verdicts (Ok it) =
     (after : Tables) × TurnAllByText tables turned verdicts after × Has new after
+    × AllByRecursion (λ (keyed : Key × Command). HavePairedFor keyed.1 tables) turned
 ComesByTextInside tables turned old new verdicts (Err fault) = FailsByTextFirst tables turned verdicts old new (store_fault_of fault)
 
 pub record JudgesAllTurned (rounding : Option Rounding) (asked : List (Key × Asked)) (turned : List (Key × Command)) (old new : State)
@@ -247,11 +264,15 @@ ComesTo rounding entries asked turned old new verdicts end.Dropped =
 ComesTo rounding entries asked turned old new verdicts (end.Failed fault) =
     (it : JudgesFirst rounding entries asked turned verdicts) × StopsAll fault entries it.done verdicts it.book it.left old new
 
--- What commands come to on tables, whatever these stand for: by the texts under their keys.
+-- What commands come to on tables, whatever these stand for: by the texts under their keys. Each account and commodity that they
+-- post to has the same lots in both tables before.
 abbrev pub ComesByText : Tables → List (Key × Command) → State → State → List Verdict → Ended → Type 0
 ComesByText tables turned old new verdicts end.Kept =
     (after : Tables) × TurnAllByText tables turned verdicts after × (IsTrue new.is_open → Has new after)
-ComesByText tables turned old new verdicts end.Dropped = (after : Tables) × TurnAllByText tables turned verdicts after
+    × AllByRecursion (λ (keyed : Key × Command). HavePairedFor keyed.1 tables) turned
+ComesByText tables turned old new verdicts end.Dropped =
+    (after : Tables) × TurnAllByText tables turned verdicts after
+    × AllByRecursion (λ (keyed : Key × Command). HavePairedFor keyed.1 tables) turned
 ComesByText tables turned old new verdicts (end.Failed fault) = FailsByTextFirst tables turned verdicts old new fault
 
 -- all is committed of commands that are kept, if one of them is accepted; else nothing changes

@@ -21,6 +21,7 @@ ghost use Rattle.lot_atomic.specs.AllOrNone.{
   JudgesAsked,
   JudgesByText,
   JudgesNext,
+  JudgesPairs,
   comes_to,
   ended_by,
   joined,
@@ -257,7 +258,7 @@ fn judge_asked<S: Alter, N: Watch>(
         → IsTrue (state S.Store tx.old.conn.now).in_transaction }
     requires unlimited { tx.old.conn.now.step_limit ≡ None }
     ensures same_reference { tx.new.conn.ghost_name ≡ tx.old.conn.ghost_name }
-    ensures judges { JudgesAsked (IsOf kept.old) (IsOf kept.new) (option_copied rounding.entry)
+    ensures judges { JudgesAsked kept.old kept.new (option_copied rounding.entry)
         (key.now, asked.now)
         (state S.Store tx.old.conn.now) (state S.Store tx.new.conn.now) result }
 {
@@ -310,7 +311,7 @@ fn judge_with<S: Alter>(
         → IsTrue (state S.Store tx.old.conn.now).in_transaction }
     requires unlimited { tx.old.conn.now.step_limit ≡ None }
     ensures same_reference { tx.new.conn.ghost_name ≡ tx.old.conn.ghost_name }
-    ensures judges { JudgesAsked (IsOf kept.old) (IsOf kept.new) (Some rounding.now)
+    ensures judges { JudgesAsked kept.old kept.new (Some rounding.now)
         (key.now, asked.now) (state S.Store tx.old.conn.now) (state S.Store tx.new.conn.now)
         (verdict_in result) }
 {
@@ -342,6 +343,8 @@ fn judge_next<S: Alter>(
     ensures text { JudgesByText key.now command.now
         (state S.Store tx.old.conn.now) (state S.Store tx.new.conn.now) result }
     ensures damage { FailsByText key.now
+        (state S.Store tx.old.conn.now) (state S.Store tx.new.conn.now) result }
+    ensures pairs { JudgesPairs kept.old kept.new command.now
         (state S.Store tx.old.conn.now) (state S.Store tx.new.conn.now) result }
 {
     is_sayable(command);

@@ -47,7 +47,7 @@ use Rattle.lot_walk.specs.Holdings.{AreAllHoldingRows, IsAnyHolding, IsHoldings,
 use Rattle.lot_walk.specs.Prices.{prices_by}
 use Rattle.lot_walk.specs.declared.gains.NumberedSale.{NumberedSale}
 
-one_more : {X : Type 0} (records : X → List (List ℕ)) (rows : List X) (row : X) → text_of records (rows ++ row ∷ []) ≡ text_of records rows ++ joined (records row)
+pub one_more : {X : Type 0} (records : X → List (List ℕ)) (rows : List X) (row : X) → text_of records (rows ++ row ∷ []) ≡ text_of records rows ++ joined (records row)
 one_more records rows row =
     flat_map-append (λ (r : _). joined (records r)) rows (row ∷ [])
     ∙ ap (λ text. text_of records rows ++ text) (append-nil (joined (records row)))

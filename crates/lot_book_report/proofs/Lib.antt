@@ -3,6 +3,7 @@ pub mod CsvLemmas
 pub mod FeedLemmas
 pub mod GivenLemmas
 pub mod HoldingLemmas
+mod ListedLemmas
 pub mod JournalLemmas
 pub mod PriceLemmas
 pub mod ReadLemmas

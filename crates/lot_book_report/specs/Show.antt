@@ -88,6 +88,11 @@ abbrev pub IsOfBook : ShowFault → Type 0
 IsOfBook (AtWalk fault) = ⊤
 IsOfBook (AtRow fault) = ⊥
 
+-- the fault is one of the report, or of its writer
+abbrev pub IsOfReport : ShowFault → Type 0
+IsOfReport (AtWalk fault) = ⊥
+IsOfReport (AtRow fault) = ⊤
+
 -- a book is read, which changes nothing: which faults end that, when, and what they leave
 pub record ReadsBook {S A : Type 0} (g : Ghosts S) (old new : Book S g) (result : Result A ShowFault) : Type 0 where
   -- a book that needs reopening gives no row, and only a failure of the device makes it need that

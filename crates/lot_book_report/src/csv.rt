@@ -21,7 +21,7 @@ mod holdings;
 
 use crate::fault::ShowFault;
 pub use gains::show_gains_csv;
-pub use holdings::show_holdings_csv;
+pub use holdings::{show_holdings_csv, write_listed_csv};
 use lot_io::CountedWrite;
 use lot_report::{PrintFault, print_texts};
 use lot_store::{StoreFault, Walk};

@@ -1,8 +1,9 @@
-ghost use Rattle.std.specs.Prelude.{◌≡◌};
+ghost use Rattle.std.specs.Prelude.{◌≡◌, IfErr, map};
 ghost use Rattle.lot_book_report.specs.Fault.{HasCause};
 ghost use Rattle.lot_book_report.specs.Holdings.{ShowsAllHoldings, ShowsAllWith, ShowsHoldings, ShowsSomeHoldings, ShowsWith, valued_with};
-ghost use Rattle.lot_book_report.specs.Show.{HoldsOfBook, HoldsOfTables, ReadsBook};
+ghost use Rattle.lot_book_report.specs.Show.{HoldsOfBook, HoldsOfTables, IsOfReport, ReadsBook, Shows};
 ghost use Rattle.lot_io.specs.Writes.{writes_between};
+ghost use Rattle.lot_report.specs.Holdings.{IsEnd, fits, row_lines};
 
 use crate::fault::ShowFault;
 use crate::prices::DayPrices;
@@ -73,6 +74,29 @@ fn write_holdings<S: Alter, W: CountedWrite>(
     }
     // No book has so many holdings.
     Err(ShowFault::from(StoreFault::Memory))
+}
+
+/// Writes rows of holdings that are given at once, as `show_holdings` writes those of a book: each lot with its value where there
+/// are prices, and the totals behind them. Nothing is flushed.
+///
+/// Where the report stops, the output is what `Holdings` of `lot_report` writes at such a fault.
+pub fn write_listed<W: CountedWrite>(
+    alloc: Global,
+    rows: Vec<Holding>,
+    prices: &Option<DayPrices>,
+    writer: &mut W,
+) -> Result<(), ShowFault>
+    ensures shows { Shows row_lines fits IsEnd (map (valued_with prices.now) rows.items)
+        (W.contents writer.old) (W.contents writer.new) result }
+    ensures fault { IfErr result IsOfReport }
+    ensures cause { HasCause result (writes_between (W.calls writer.old) (W.calls writer.new)) }
+{
+    let mut report = Holdings::new(alloc);
+    for holding in rows {
+        let row = valued(prices, holding);
+        report.row(&row, writer)?;
+    }
+    Ok(report.end(writer)?)
 }
 
 /// Returns a holding with its valuation.

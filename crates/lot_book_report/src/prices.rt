@@ -15,7 +15,7 @@ use std::collections::BTreeMap;
 
 /// The prices of a book at a day.
 #[derive(Drop)]
-pub(crate) struct DayPrices {
+pub struct DayPrices {
     /// By base, then by quote.
     rates: BTreeMap<Commodity, BTreeMap<Commodity, Rate>>,
 }
@@ -47,7 +47,7 @@ impl DayPrices {
     }
 
     /// Returns the valuation of a holding. A lot is valued at the price of its commodity in the currency of its cost.
-    pub fn valuation(&self, holding: &Holding) -> Valuation
+    pub(crate) fn valuation(&self, holding: &Holding) -> Valuation
         ensures { result ≡ valuation_at (kept self.now) holding.now.commodity holding.now.lot }
     {
         let Some(lot) = &holding.lot else {

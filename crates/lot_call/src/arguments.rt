@@ -148,6 +148,15 @@ fn example_of(word: &str) -> Option<&'static str> {
         ),
         "holdings" => Some("lotbook holdings --book family.book"),
         "gains" => Some("lotbook gains --book family.book --first 2024-01-01 --last 2024-12-31"),
+        "register" => Some(
+            "lotbook register --book family.book --account Assets:Broker --first 2024-01-01 --last 2024-12-31",
+        ),
+        "activity" => Some(
+            "lotbook activity --book family.book --account Income: --first 2024-01-01 --last 2024-12-31",
+        ),
+        "reconcile" => Some(
+            "lotbook reconcile --book family.book --account Assets:Broker --as-of 2024-12-31 < statement.csv",
+        ),
         "journal" => Some("lotbook journal --book family.book > family.ledger"),
         "dump" => Some("lotbook dump --book family.book > family.dump"),
         "restore" => Some("lotbook restore --book new.book < family.dump"),
@@ -248,12 +257,18 @@ fn form(option: BadOption) -> &'static str {
         BadOption::Rounding => "an account, as in --rounding Equity:Rounding",
         BadOption::Within => "an amount from 0 to 1, as in --within 0.01",
         BadOption::Decimals => "0 to 8, as in --decimals 2",
+        BadOption::Account => {
+            "an account, or what accounts begin with up to a colon, as in --account Income:"
+        }
+        BadOption::Commodity => "a commodity, as in --commodity HOOL",
         BadOption::Day => "a day, as in --day 2024-12-31",
+        BadOption::AsOf => "a day, as in --as-of 2024-12-31",
         BadOption::First => "a day, as in --first 2024-01-01",
         BadOption::Last => "a day, as in --last 2024-12-31",
         BadOption::By => {
             "year, commodity, account or term, or several joined by commas, as in --by year,account"
         }
+        BadOption::Period => "year, quarter or month, as in --by quarter",
         BadOption::Format => "text or csv, as in --format csv",
         BadOption::Without => {
             "the key of an entry, its source and its name, as in --without \"import:broker A17\""

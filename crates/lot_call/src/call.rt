@@ -42,6 +42,7 @@ impl Call<'_> {
             | Action::Init { .. }
             | Action::Migrate { .. }
             | Action::Report { .. }
+            | Action::Reconcile(_)
             | Action::Restore(_)
             | Action::Verify { .. } => None,
         }

@@ -180,6 +180,18 @@ fn source_of<'a>(
             (Source::Row { batch, reference }, 1)
         }
         Action::Restore(_) => (Source::Dump, 1),
+        // Its rows aren't those of a broker file.
+        Action::Reconcile(_) => {
+            let batch = "check";
+            (
+                Source::Export {
+                    batch,
+                    rows,
+                    commands,
+                },
+                1,
+            )
+        }
         Action::Check { .. }
         | Action::Init { .. }
         | Action::Migrate { .. }

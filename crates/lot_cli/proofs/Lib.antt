@@ -9,6 +9,7 @@ pub mod RunLemmas
 pub mod NumberLemmas
 pub mod StretchLemmas
 pub mod WholeLemmas
+pub mod ReconcileLemmas
 pub mod ReopenLemmas
 pub mod AllOrNoneLemmas
 pub mod VerificationLemmas

@@ -91,7 +91,7 @@ pub shows_book : {S : Type 0} (g : Ghosts S) (writing : Writing) (book later : B
     → HoldsOfPlacedBook g book later (λ place entries. writing.of_book place entries before mid shown)
     → writing.some before mid shown
     → HoldsOfTables g book later (λ tables. writing.rows tables before mid shown)
-    → HasCause shown (record { before = first; after = between }) → Concludes shown mid written (record { before = between; after = last }) status
+    → HasCause shown (record { before = first; after = between }) → Concludes writing.whole shown mid written (record { before = between; after = last }) status
     → ShowsBook writing (state g book.conn) (state g later.conn) before written (record { before = first; after = last }) status
 shows_book g writing book later shown before mid written first between last status ready reads shows some rows cause concludes = record {
   shown = shown;

@@ -7,14 +7,16 @@ use Rattle.std.proofs.lemmas.List.{get_or-append-add, get_or_append_left, length
 use Rattle.std.proofs.lemmas.List.Folds.{drop_split}
 use Rattle.std.proofs.lemmas.List.FromFn.{get_or-range_with_len, length-range_with_len}
 use Rattle.std.specs.Io.KnownBytes.{Appends}
-use Rattle.std.specs.List.{range_with_len, slice_range}
+use Rattle.std.specs.List.{AllByRecursion, range_with_len, slice_range}
 use Rattle.sqlite.proofs.StateLemmas.{survives_then}
 use Rattle.sqlite.specs.State.{HasCleanDisk, State, Survives}
 use Rattle.sqlite.specs.Tree.{Trees}
+use Rattle.sqlite_keyed.proofs.ListLemmas.{all-append}
 use Rattle.lot_command.specs.declared.command.Command.{Command}
 use Rattle.lot_command.specs.declared.key.Key.{Key}
 use Rattle.lot_book.specs.Facts.{Entry}
 use Rattle.lot_book.specs.Judged.{JudgesAll, JudgesOn}
+use Rattle.lot_book.specs.declared.change.Pair.{Pair}
 use Rattle.lot_book.specs.declared.verdict.Verdict.{Verdict}
 use Rattle.lot_book.specs.declared.verdict.Verdict.TheVariants.{Accepted, Refused, Repeated}
 use Rattle.lot_laws.proofs.JudgedLaws.{judged_alike, judges_more}
@@ -24,6 +26,7 @@ use Rattle.lot_report.specs.Written.{IsPrefixOf}
 use Rattle.lot_rounding.specs.declared.asked.Asked.{Asked}
 use Rattle.lot_rounding.specs.declared.rounding.Rounding.{Rounding}
 use Rattle.lot_rows.proofs.StateLemmas.{survives_same}
+use Rattle.lot_load.specs.Paired.{HavePaired, HavePairedFor}
 use Rattle.lot_rows.specs.Tables.{Has, Tables}
 use Rattle.lot_stored.specs.StandFor.{Left, Stands}
 use Rattle.lot_stream.specs.declared.status.Status.{Status}
@@ -34,7 +37,8 @@ use Rattle.lot_atomic.specs.Replies.{number_at, replies_by}
 use Rattle.lot_cli.specs.Runs.{FollowOneAnother, RunsEach, RunsNumbered, WritesEndBy, first_number, status_ending, status_of_run}
 use Rattle.lot_store.proofs.DamageLemmas.{of_damage_since}
 use Rattle.lot_store.proofs.RunLemmas.{LeavesWhatStands, turns_judge}
-use Rattle.lot_store.specs.ByText.{AnswersFirst, EndsByText, RunsByText, TurnAllByText}
+use Rattle.lot_store.proofs.PairedLemmas.{command_before, commands_before, paired_before}
+use Rattle.lot_store.specs.ByText.{AnswersFirst, EndsByText, EndsUnpaired, MeetsUnpairedFirst, RunsByText, TurnAllByText}
 use Rattle.lot_store.specs.Run.{EndsBehind, HasNoRoomForNext, IsWrittenOut, LeavesAfter, LeavesAtAnswer, LeavesAtFault, LeavesAtVerdict, RunsSession, WritesEnd, answer_line, count_refused, fault_line}
 use Rattle.lot_store.specs.Session.{LeavesFirst, LeavesJudged, LeavesNext, LeavesStopped, Session}
 use Rattle.lot_store.specs.Turned.{AreLeft, AreTurned, AreTurnedOn, RunsTurned, handed, is_judged}
@@ -254,6 +258,21 @@ module _ (old mid new : State) (failed : DiskFailed mid new → DiskFailed old n
   ends_texts tables left answer (Stopped fault) ends some told = first_texts tables left (Err fault) some told
   ends_texts tables left answer Output ends some told = first_texts tables left answer some told
 
+-- the same of a command that posts to a pair which wasn't paired before all of them
+module _ (old mid new : State) (failed : DiskFailed mid new → DiskFailed old new) (rest : List (Key × Command)) (tables between : Tables)
+    (back : (pair : Pair) → HavePaired pair between → HavePaired pair tables) where
+  first_unpaired : (left : List (Key × Command)) (answer : Result Verdict StoreFault) → left ≢ [] → MeetsUnpairedFirst between left mid new answer
+      → MeetsUnpairedFirst tables (left ++ rest) old new answer
+  first_unpaired [] answer some meets = absurd (some refl)
+  first_unpaired (next ∷ left) answer some meets = λ unpaired.
+      of_damage_since old mid new failed answer (meets (λ found. unpaired (command_before tables between back next.1 found)))
+
+  ends_unpaired : (left : List (Key × Command)) (answer : Result Verdict StoreFault) (ending : Ending) → ending ≢ Complete → left ≢ []
+      → EndsUnpaired between left mid new answer ending → EndsUnpaired tables (left ++ rest) old new answer ending
+  ends_unpaired left answer Complete ends some meets = absurd (ends refl)
+  ends_unpaired left answer (Stopped fault) ends some meets = first_unpaired left (Err fault) some meets
+  ends_unpaired left answer Output ends some meets = first_unpaired left answer some meets
+
 -- ---- what a stop leaves
 
 module _ (entries : List Entry) (commands : List (Key × Command)) (verdicts : List Verdict) (book : List Entry) (old new : State)
@@ -359,6 +378,7 @@ pub record Done (rounding : Option Rounding) (numbers : List ℕ) (asked : List 
       × ((trees : Trees) → now.may_leave trees → LeavesJudged old.may_leave verdicts book trees)
   pub crash : Survives old now (λ trees. (entries : List Entry) → Stands old entries → LeavesFirst entries turned trees)
   pub texts : HasCleanDisk now → (tables : Tables) → Has old tables → (after : Tables) × TurnAllByText tables turned verdicts after × Has now after
+  pub paired : HasCleanDisk now → (tables : Tables) → Has old tables → AllByRecursion (λ (keyed : Key × Command). HavePairedFor keyed.1 tables) turned
 
 pub done_none : (rounding : Option Rounding) (old : State) (before : Option (List ℕ)) → Done rounding [] [] [] AllAccepted old old before before
 done_none rounding old before = record {
@@ -369,6 +389,7 @@ done_none rounding old before = record {
   judged = λ clean entries stands. (entries, refl, stands, λ trees may. inr (refl, may));
   crash = survives_same old _;
   texts = λ clean tables has. (tables, refl, has);
+  paired = λ clean tables has. tt;
 }
 
 -- all of them are a run
@@ -392,7 +413,7 @@ done_all rounding numbers asked turned status old now before written calls stand
         )) so.crash
         (λ clean tables has.
         let was = so.texts clean tables has in
-        record { done = turned; left = []; split = sym (append-nil turned); after = was.0; turn = was.1; ends = (refl, was.2) });
+        record { done = turned; left = []; split = sym (append-nil turned); after = was.0; turn = was.1; ends = (refl, was.2); paired = so.paired clean tables has; unpaired = tt });
     are_turned = λ clean entries stands.
         let was = so.judged clean entries stands in
         record {
@@ -569,6 +590,15 @@ module _ (rounding : Option Rounding) (numbers later : List ℕ) (asked stretch 
             texts_append tables was.0 it.after done turned vs ws was.1 (subst (λ (cs : List (Key × Command)). TurnAllByText was.0 cs ws it.after) (sym whole) it.turn),
             ends.1,
           );
+      paired = λ clean tables has.
+          let was = so.texts (clean_mid clean) tables has in
+          let it = ran.texts clean was.0 was.2 in
+          let first = so.paired (clean_mid clean) tables has in
+          let ends : EndsByText it.after it.left mid new answer Complete = subst (EndsByText it.after it.left mid new answer) complete it.ends in
+          let whole : turned ≡ it.done = it.split ∙ ap (λ (cs : List (Key × Command)). it.done ++ cs) ends.0 ∙ append-nil it.done in
+          all-append (λ (keyed : Key × Command). HavePairedFor keyed.1 tables) done turned first
+          (commands_before tables was.0 (paired_before tables done vs was.0 was.1 first) turned
+          (subst (AllByRecursion (λ (keyed : Key × Command). HavePairedFor keyed.1 was.0)) (sym whole) it.paired));
     }
 
   -- ---- a stretch at which the run ends
@@ -638,14 +668,19 @@ module _ (rounding : Option Rounding) (numbers later : List ℕ) (asked stretch 
     texts_ends : HasCleanDisk new → (tables : Tables) → Has old tables → RunsByText tables all_of (vs ++ ws) old new answer end.ending
     texts_ends clean tables has =
         let was = so.texts (clean_mid clean) tables has in
-        let it = ran.texts clean was.0 was.2 in record {
+        let it = ran.texts clean was.0 was.2 in
+        let first = so.paired (clean_mid clean) tables has in
+        let back = paired_before tables done vs was.0 was.1 first in
+        let since = failed_since old mid new _ _ (clean_mid clean) so.crash ran.crash in
+        let some = some_left it.done it.left turned ws it.split (texts_count was.0 it.after it.done ws it.turn) few in record {
           done = done ++ it.done;
           left = it.left ++ others;
           split = ap (λ (cs : List (Key × Command)). done ++ (cs ++ others)) it.split ∙ shift done it.done it.left others;
           after = it.after;
           turn = texts_append tables was.0 it.after done it.done vs ws was.1 it.turn;
-          ends = ends_texts old mid new (failed_since old mid new _ _ (clean_mid clean) so.crash ran.crash) others it.after it.left answer end.ending ends
-              (some_left it.done it.left turned ws it.split (texts_count was.0 it.after it.done ws it.turn) few) it.ends;
+          ends = ends_texts old mid new since others it.after it.left answer end.ending ends some it.ends;
+          paired = all-append (λ (keyed : Key × Command). HavePairedFor keyed.1 tables) done it.done first (commands_before tables was.0 back it.done it.paired);
+          unpaired = ends_unpaired old mid new since others tables was.0 back it.left answer end.ending ends some it.unpaired;
         }
 
     turned_ends : HasCleanDisk new → (entries : List Entry) → Stands old entries

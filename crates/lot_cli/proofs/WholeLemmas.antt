@@ -25,6 +25,7 @@ use Rattle.lot_cli.proofs.AllOrNoneLemmas.{all_leave}
 use Rattle.lot_cli.specs.AllOrNone.{that_count}
 use Rattle.lot_cli.specs.Runs.{RunsOn, status_of_run}
 use Rattle.lot_store.proofs.ApplyLemmas.{stands_along}
+use Rattle.lot_store.specs.ByText.{MeetsUnpairedFirst}
 use Rattle.lot_store.proofs.ByTextLemmas.{has_along}
 use Rattle.lot_store.proofs.DamageLemmas.{of_damage_since}
 use Rattle.lot_store.proofs.RunLemmas.{LeavesWhatStands}
@@ -87,11 +88,25 @@ module _ (rounding : Option Rounding) (asked : List (Key × Asked)) (turned : Li
   damage_since tables [] fault meets = tt
   damage_since tables (next ∷ left) fault meets = λ damaged. of_damage_since old mid new failed (Err fault) (meets damaged)
 
+  pairs_since : (tables : Tables) (left : List (Key × Command)) (fault : StoreFault) → MeetsUnpairedFirst tables left mid new (Err fault)
+      → MeetsUnpairedFirst tables left old new (Err fault)
+  pairs_since tables [] fault meets = tt
+  pairs_since tables (next ∷ left) fault meets = λ unpaired. of_damage_since old mid new failed (Err fault) (meets unpaired)
+
   texts_since : (tables : Tables) (ended : Ended) → ComesByText tables turned mid new verdicts ended → ComesByText tables turned old new verdicts ended
   texts_since tables Kept comes = comes
   texts_since tables Dropped comes = comes
   texts_since tables (Failed fault) it =
-      record { done = it.done; left = it.left; split = it.split; after = it.after; turn = it.turn; damage = damage_since it.after it.left fault it.damage }
+      record {
+        done = it.done;
+        left = it.left;
+        split = it.split;
+        after = it.after;
+        turn = it.turn;
+        damage = damage_since it.after it.left fault it.damage;
+        paired = it.paired;
+        unpaired = pairs_since tables it.left fault it.unpaired;
+      }
 
   all_since : (trees : Trees) → LeavesAll rounding asked turned verdicts mid trees → LeavesAll rounding asked turned verdicts old trees
   all_since trees leaves entries stands = leaves entries (stands_along old mid entries now_is stands)

@@ -3,6 +3,7 @@
 use Rattle.std.specs.Prelude.{◌≡◌, ◌≢◌, ◌⊎◌, ℕ, nat_eq, if◌then◌else◌, List, [], length, None, Some, Option, Result, codes}
 use Rattle.sqlite.specs.State.{HasCleanDisk, State}
 use Rattle.lot_stream.specs.Status.{code_of}
+use Rattle.lot_stream.specs.declared.status.Status.TheVariants.{Accepted}
 use Rattle.lot_command.specs.declared.command.Command.{Command}
 use Rattle.lot_command.specs.declared.key.Key.{Key}
 use Rattle.lot_book.specs.Facts.{Entry}
@@ -46,7 +47,7 @@ pub record ShowsHeld (book : List Entry) (before written : Option (List ℕ)) (c
   pub between : Option WriteCalls
   pub shows : ShowsHoldings book None before mid shown
   pub cause : HasCause shown (record { before = calls.before; after = between })
-  pub concludes : Concludes shown mid written (record { before = between; after = calls.after }) status
+  pub concludes : Concludes Accepted shown mid written (record { before = between; after = calls.after }) status
 
 -- the status behind the holdings: that of the commands, unless the holdings can't be written
 abbrev pub status_behind : ℕ → ℕ → ℕ

@@ -6,6 +6,7 @@ pub mod Differ
 pub mod Dumped
 pub mod Runs
 pub mod Reports
+pub mod Reconcile
 pub mod Check
 pub mod Serve
 pub mod Sessions

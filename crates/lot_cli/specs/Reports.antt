@@ -1,9 +1,11 @@
 -- A report of the book that is there: what is written, and what is left (docs/RULES.md, The program).
-use Rattle.std.specs.Prelude.{◌≡◌, ◌≢◌, ◌⊎◌, ℕ, ℤ, Bool, true, false, List, [], ◌++◌, None, OnOk, Option, Result, Ok, Err, codes}
+use Rattle.std.specs.Prelude.{◌≡◌, ◌≢◌, ◌⊎◌, ℕ, Bool, true, false, List, [], ◌++◌, None, OnOk, Option, Result, Ok, Err, codes, option_map, String, ℤ}
 use Rattle.std.specs.Io.KnownBytes.{Appends, Keeps}
+use Rattle.std.specs.String.{string_bytes}
 use Rattle.sqlite.specs.State.{HasCleanDisk, State, Survives}
 use Rattle.lot_book.specs.Facts.{Entry}
 use Rattle.lot_stream.specs.Status.{code_of}
+use Rattle.lot_stream.specs.declared.status.Status.{Status}
 use Rattle.lot_stream.specs.declared.status.Status.TheVariants.{Accepted, Stopped}
 use Rattle.lot_stored.specs.Rows.{entry_rows}
 use Rattle.lot_stored.specs.StandFor.{Stands}
@@ -17,13 +19,20 @@ use Rattle.lot_cli.specs.Says.{Halts, Says, Told}
 use Rattle.lot_cli.specs.declared.halt.Halt.TheVariants as halt
 use Rattle.lot_args.specs.declared.action.Format.TheVariants.{Csv, Text}
 use Rattle.lot_args.specs.declared.action.Report.{Report}
-use Rattle.lot_args.specs.declared.action.Report.TheVariants.{Holdings, Gains, GainsBy, Journal, Dump}
+use Rattle.lot_args.specs.declared.action.Report.TheVariants.{Holdings, HoldingsOn, Gains, GainsBy, Register, Activity, Journal, Dump}
 use Rattle.lot_book_report.specs.Csv.{ShowsAllHoldingsCsv, ShowsAllSalesCsv, ShowsGainsCsv, ShowsHoldingsCsv, ShowsSomeGainsCsv, ShowsSomeHoldingsCsv}
 use Rattle.lot_book_report.specs.Dump.{ShowsDump, ShowsDumpOfTables, ShowsSomeDump, digest_line, digest_of}
 use Rattle.lot_book_report.specs.declared.digest.BookDigest.{BookDigest}
 use Rattle.lot_book_report.specs.Fault.{HasCause, fault_name, is_of_writer}
 use Rattle.lot_book_report.specs.Gains.{ShowsAllSales, ShowsGains, ShowsSomeGains}
+use Rattle.lot_activity.specs.Scope.{Asked}
+use Rattle.lot_activity.specs.Table.{Terms, terms_with}
+use Rattle.lot_noted.specs.Book.{Asked as AskedLegs, register_legs}
+use Rattle.lot_period.specs.declared.period.PeriodLength.{PeriodLength}
+use Rattle.lot_register_report.specs.Show.{ShowsAllLegs, ShowsRegister, ShowsSomeRegister}
+use Rattle.lot_sums.specs.Activity.{ShowsActivity, ShowsAllActivity, ShowsSomeActivity}
 use Rattle.lot_sums.specs.GainsBy.{ShowsAllSalesBy, ShowsGainsBy, ShowsSomeGainsBy}
+use Rattle.lot_sums.specs.Held.{ShowsAllHoldingsOn, ShowsHoldingsOn, ShowsSomeHoldingsOn}
 use Rattle.lot_tally.specs.declared.key.TableForm.{TableForm}
 use Rattle.lot_tally.specs.declared.key.TableForm.TheVariants as form
 use Rattle.lot_args.specs.declared.action.Format.{Format}
@@ -56,11 +65,11 @@ abbrev pub ConcludesFault : Bool → ShowFault → Option (List ℕ) → Option 
 ConcludesFault true fault shown written calls status = Keeps shown written × (status ≡ code_of Stopped) × HasFailed calls.after
 ConcludesFault false fault shown written calls status = Says (report_line fault) Stopped shown written calls status
 
--- the same of any report: nothing follows a whole one, which is flushed, or a call of the writer failed
-abbrev pub Concludes : Result (Unit {0}) ShowFault → Option (List ℕ) → Option (List ℕ) → WritesMade → ℕ → Type 0
-Concludes (Ok done) shown written calls status =
-    Keeps shown written × (((status ≡ code_of Accepted) × AllFlushed calls) ⊎ ((status ≡ code_of Stopped) × HasFailed calls.after))
-Concludes (Err fault) shown written calls status = ConcludesFault (is_of_writer fault) fault shown written calls status
+-- the same of any report: nothing follows a whole one, which is flushed and ends so, or a call of the writer failed
+abbrev pub Concludes : Status → Result (Unit {0}) ShowFault → Option (List ℕ) → Option (List ℕ) → WritesMade → ℕ → Type 0
+Concludes whole (Ok done) shown written calls status =
+    Keeps shown written × (((status ≡ code_of whole) × AllFlushed calls) ⊎ ((status ≡ code_of Stopped) × HasFailed calls.after))
+Concludes whole (Err fault) shown written calls status = ConcludesFault (is_of_writer fault) fault shown written calls status
 
 -- ---- the book
 
@@ -115,12 +124,24 @@ abbrev pub form_of : Format → TableForm
 form_of Text = form.Text
 form_of Csv = form.Csv
 
+-- which legs a report of activity is over, and its terms
+abbrev pub asked_for : {A : Type 0} → Option (String A) → Option ℤ → Option ℤ → Asked
+asked_for account first last = record { account = option_map string_bytes account; days = (first, last) }
+
+abbrev pub terms_for : {A : Type 0} → Option (String A) → PeriodLength → Option ℤ → Option ℤ → Format → Terms
+terms_for account length first last format = terms_with length (asked_for account first last) (form_of format)
+
+-- which legs a register is over
+abbrev pub legs_for : {A : Type 0} → String A → Option (List ℕ) → Option ℤ → AskedLegs
+legs_for account commodity last = record { account = string_bytes account; commodity = commodity; last = last }
+
 -- what is written for a book: of the book with these entries and that place of migration; of some rows, whatever the tables are;
--- and of all rows of the tables, where no fault ends it
+-- and of all rows of the tables, where no fault ends it; and with which status a whole one ends
 pub record Writing : Type 1 where
   pub of_book : ℕ → List Entry → Option (List ℕ) → Option (List ℕ) → Result (Unit {0}) ShowFault → Type 0
   pub some : Option (List ℕ) → Option (List ℕ) → Result (Unit {0}) ShowFault → Type 0
   pub rows : Tables → Option (List ℕ) → Option (List ℕ) → Result (Unit {0}) ShowFault → Type 0
+  pub whole : Status
 
 -- What is written of what a book with these entries holds, with what its lots are worth on a day, in a format; whatever the tables
 -- are, of some holdings; and, where no fault ends it, of all rows of the tables.
@@ -149,35 +170,48 @@ abbrev pub ShowsAllGainsAs : Format → Range → Tables → Option (List ℕ) �
 ShowsAllGainsAs Text range tables = ShowsAllSales tables range
 ShowsAllGainsAs Csv range tables = ShowsAllSalesCsv tables range
 
--- How much of a report of a book with these entries and that place of migration is written. The report is of what it holds, of what
--- its sales gained, or of the sums of that by keys; or of its entries, as a journal or as a dump. The dump alone says the place.
+-- How much of a report of a book with these entries and that place of migration is written. The report is of what it holds, or held
+-- at the end of a day, with what its lots are worth on a day; of what its sales gained from the first to the last day, both included,
+-- or of the sums of that by keys; of the legs of accounts on such days; of what went into accounts and out of them on such days, by
+-- period; or of its entries, as a journal or as a dump. All but the last two are as text or as CSV. The dump alone says the place.
 abbrev pub ShowsReport : Report → ℕ → List Entry → Option (List ℕ) → Option (List ℕ) → Result (Unit {0}) ShowFault → Type 0
 ShowsReport (Holdings day format) place entries = ShowsHoldingsAs format day entries
+ShowsReport (HoldingsOn on day format) place entries = ShowsHoldingsOn (form_of format) on day entries
 ShowsReport (Gains first last format) place entries = ShowsGainsAs format (first, last) entries
 ShowsReport (GainsBy first last by format) place entries = ShowsGainsBy by.items (form_of format) entries (first, last)
+ShowsReport (Register account commodity first last format) place entries =
+    ShowsRegister (form_of format, first) (register_legs (legs_for account commodity last) entries)
+ShowsReport (Activity account length first last format) place entries = ShowsActivity (terms_for account length first last format) entries
 ShowsReport Journal place entries = ShowsJournal (entry_rows 1 entries)
 ShowsReport Dump place entries = ShowsDump (extent_of place entries) (entry_rows 1 entries)
 
 -- whatever the tables are, the report of some rows is written, or as much of it as its fault leaves
 abbrev pub ShowsSome : Report → Option (List ℕ) → Option (List ℕ) → Result (Unit {0}) ShowFault → Type 0
 ShowsSome (Holdings day format) = ShowsSomeHoldingsAs format day
+ShowsSome (HoldingsOn on day format) = ShowsSomeHoldingsOn (form_of format) on
 ShowsSome (Gains first last format) = ShowsSomeGainsAs format
 ShowsSome (GainsBy first last by format) = ShowsSomeGainsBy by.items (form_of format)
+ShowsSome (Register account commodity first last format) = ShowsSomeRegister (form_of format, first)
+ShowsSome (Activity account length first last format) = ShowsSomeActivity (terms_for account length first last format)
 ShowsSome Journal = ShowsSomeJournal
 ShowsSome Dump = ShowsSomeDump
 
 -- Where no fault ends it, the report is that of all rows of its tables, whatever these stand for. The rows are those of plain
--- units and of lots, of the sales on the days of the range, or of the entries.
+-- units and of lots, of legs up to a day, of the sales on the days of the range, of the legs, or of the entries.
 abbrev pub ShowsAllRows : Report → Tables → Option (List ℕ) → Option (List ℕ) → Result (Unit {0}) ShowFault → Type 0
 ShowsAllRows (Holdings day format) tables = ShowsAllHoldingsAs format day tables
+ShowsAllRows (HoldingsOn on day format) tables = ShowsAllHoldingsOn (form_of format) on day tables
 ShowsAllRows (Gains first last format) tables = ShowsAllGainsAs format (first, last) tables
 ShowsAllRows (GainsBy first last by format) tables = ShowsAllSalesBy by.items (form_of format) tables (first, last)
+ShowsAllRows (Register account commodity first last format) tables =
+    ShowsAllLegs (form_of format, first) (legs_for account commodity last) tables
+ShowsAllRows (Activity account length first last format) tables = ShowsAllActivity (terms_for account length first last format) tables
 ShowsAllRows Journal tables = ShowsAllEntries tables
 ShowsAllRows Dump tables = ShowsDumpOfTables tables
 
 -- what is written for a report
 abbrev pub written_for : Report → Writing
-written_for report = record { of_book = ShowsReport report; some = ShowsSome report; rows = ShowsAllRows report }
+written_for report = record { of_book = ShowsReport report; some = ShowsSome report; rows = ShowsAllRows report; whole = Accepted }
 
 -- what is written beside that a book is verified: the digest of its dump, which says the place of migration
 abbrev pub digest_writing : Writing
@@ -185,6 +219,7 @@ digest_writing = record {
   of_book = λ place entries. ShowsDigest (digest_of (extent_of place entries) (entry_rows 1 entries));
   some = ShowsSomeDigest;
   rows = ShowsDigestOfTables;
+  whole = Accepted;
 }
 
 -- a report of a book is written, as far as its fault lets it, and concluded with that status
@@ -198,7 +233,7 @@ pub record ShowsBook (writing : Writing) (old new : State) (before written : Opt
   pub some : writing.some before mid shown
   pub rows : HasCleanDisk new → (tables : Tables) → Has old tables → writing.rows tables before mid shown
   pub cause : HasCause shown (record { before = calls.before; after = between })
-  pub concludes : Concludes shown mid written (record { before = between; after = calls.after }) status
+  pub concludes : Concludes writing.whole shown mid written (record { before = between; after = calls.after }) status
 
 -- a report of the book that is there is written; or the database isn't taken up
 abbrev pub Reports : Writing → State → State → Option (List ℕ) → Option (List ℕ) → WritesMade → Told

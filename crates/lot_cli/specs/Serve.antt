@@ -13,6 +13,7 @@ use Rattle.lot_report.specs.Printed.{line}
 use Rattle.lot_cli.specs.Check.{Checks}
 use Rattle.lot_cli.specs.Init.{Makes}
 use Rattle.lot_cli.specs.Reports.{Reports, ShowsBook, digest_writing, verified_line, written_for}
+use Rattle.lot_cli.specs.Reconcile.{Reconciles}
 use Rattle.lot_cli.specs.Restore.{RestoresBook, terms_for}
 use Rattle.lot_cli.specs.Runs.{Imports, ImportsBy, IsUntouched, Posts, PostsRow, unfit}
 use Rattle.lot_cli.specs.Says.{Halts, Succeeds, Told}
@@ -27,7 +28,7 @@ use Rattle.lot_args.specs.declared.action.Action.{Action}
 use Rattle.lot_args.specs.declared.action.Saying.{Saying}
 use Rattle.lot_args.specs.declared.action.Saying.TheVariants.{Digest, Verified}
 use Rattle.lot_input.specs.Input.{Reading}
-use Rattle.lot_args.specs.declared.action.Action.TheVariants.{Check, Init, Migrate, Post, PostRow, Import, ImportBy, Report, Restore, Verify}
+use Rattle.lot_args.specs.declared.action.Action.TheVariants.{Check, Init, Migrate, Post, PostRow, Import, ImportBy, Report, Reconcile, Restore, Verify}
 use Rattle.std.specs.Io.KnownBytes.{Appends}
 
 -- ---- taking over a book of edition 1
@@ -108,6 +109,7 @@ ReadsNothing (PostRow book batch reference rounding) = ⊥
 ReadsNothing (Import asked) = ⊥
 ReadsNothing (ImportBy asked) = ⊥
 ReadsNothing (Report book report) = ⊤
+ReadsNothing (Reconcile asked) = ⊥
 ReadsNothing (Restore asked) = ⊥
 ReadsNothing (Verify book saying) = ⊤
 
@@ -121,6 +123,7 @@ EndsWith (Post asked) status = IsStatus status
 EndsWith (Import asked) status = IsStatus status
 EndsWith (ImportBy asked) status = IsStatus status
 EndsWith (Report book report) status = IsStatus status
+EndsWith (Reconcile asked) status = IsStatus status
 EndsWith (Restore asked) status = IsStatus status
 EndsWith (Verify book saying) status = IsStatus status
 
@@ -152,5 +155,6 @@ Serves (Import asked) c =
 Serves (ImportBy asked) c =
     ImportsBy asked.batch asked.profile asked.rounding asked.except.items asked.keeping c.input c.old c.new c.before c.written c.calls c.told
 Serves (Report book report) c = Reports (written_for report) c.old c.new c.before c.written c.calls c.told
+Serves (Reconcile asked) c = Reconciles asked c.input c.old c.new c.before c.written c.calls c.told
 Serves (Restore asked) c = RestoresBook (terms_for asked) c.input c.old c.new c.before c.written c.calls c.told
 Serves (Verify book saying) c = SaysVerified saying c.old c.new c.before c.written c.calls c.told

@@ -15,6 +15,7 @@ use crate::halt::Halt;
 use crate::import::{import, import_by};
 use crate::migration::migrate;
 use crate::post::{post, post_row};
+use crate::reconciliation::reconcile;
 use crate::report::write_report;
 use crate::restoration::restore;
 use crate::run::{halted, tell};
@@ -53,9 +54,11 @@ pub struct Served<S: Alter> {
 ///   behind that. A fault of the input changes nothing.
 /// - `post` in place of a row of a broker file applies the one command of a ledger text under the key of the row. Where the
 ///   text has no command, or several, nothing is written and nothing changes.
-/// - `holdings`, `gains`, `journal` and `dump` take the book up and write the report, each row as it is read. The first two write
-///   text or CSV. They read no input and change nothing. Where a report ends before its end, one line with the fault follows, unless
-///   the writer failed.
+/// - `holdings`, `gains`, `register`, `activity`, `journal` and `dump` take the book up and write the report, each row as it is read,
+///   or what is summed once all is read. The first four write text or CSV. They read no input and change nothing. Where a report ends
+///   before its end, one line with the fault follows, unless the writer failed.
+/// - `reconcile` reads all that the reader has as a statement. Then the book is taken up, and it writes what differs between the two.
+///   A fault of the input goes before one of the book. It changes nothing.
 /// - `restore` makes a book of the dump that the reader has, in a database without tables. Each command is judged again, and one
 ///   commit makes the book; it writes what was refused, what left out no entry, and `book restored`.
 /// - `verify` judges the book again from its entries, compares every table, and writes `book verified`, and where that is asked
@@ -68,8 +71,8 @@ pub struct Served<S: Alter> {
 /// becomes of crumbs, and, without such an account, what would balance a command that is refused for crumbs. It looks at the book
 /// that commands would have made of which none is kept, and is told what an export comes to. Returns the status of the program:
 ///
-/// - 0: all commands were accepted or repeated, the book was made, migrated or verified, or the report is whole;
-/// - 1: some commands were refused;
+/// - 0: all commands were accepted or repeated, the book was made, migrated or verified, the report is whole, or nothing differs;
+/// - 1: some commands were refused, or something differs;
 /// - 2: the text for a row isn't one command;
 /// - 3: a fault of the input;
 /// - 4: a fault of the book, of the output or of memory. It goes before 1.
@@ -128,6 +131,7 @@ pub fn serve<R: CountedRead, W: CountedWrite, P: Progress + Watch + Look + Aside
         Action::Import(asked) => import(alloc, asked, reader, writer, progress, conn),
         Action::ImportBy(asked) => import_by(alloc, asked, reader, writer, progress, conn),
         Action::Report { report, .. } => write_report(alloc, report, writer, conn),
+        Action::Reconcile(asked) => reconcile(alloc, asked, reader, writer, conn),
         Action::Restore(asked) => restore(alloc, asked, reader, writer, conn),
         Action::Verify { saying, .. } => verify(alloc, *saying, writer, conn),
     }

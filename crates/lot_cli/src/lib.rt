@@ -8,6 +8,7 @@
 //! - `restoration`: a book made of a dump; `unrestored`: why none is; `difference`: how it differs from another.
 //! - `run`: commands run on the book that is there, each in one commit, or all in one or none.
 //! - `report`: reports of the book that is there.
+//! - `reconciliation`: what differs between a statement and the book that is there.
 //! - `showing`: what a broker's export comes to, as ledger text.
 //! - `halt`: why an action comes to nothing: its input, its book or its dump.
 //! - `laws`: what becomes of a row that comes again.
@@ -21,6 +22,7 @@ mod import;
 pub mod laws;
 mod migration;
 mod post;
+mod reconciliation;
 mod report;
 mod restoration;
 mod run;

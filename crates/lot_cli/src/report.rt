@@ -1,9 +1,11 @@
 //! Reports of the book that is there.
-ghost use Rattle.std.specs.Prelude.{◌≡◌, None, Option, false};
+ghost use Rattle.std.specs.Prelude.{◌≡◌, None, Option, false, option_map};
+ghost use Rattle.lot_activity.specs.Scope.{asked_in};
+ghost use Rattle.lot_noted.specs.Book.{asked_in as legs_in};
 ghost use Rattle.lot_io.specs.Writes.{WriteCalls, writes_between};
 ghost use Rattle.lot_stream.specs.Status.{IsStatus};
 ghost use Rattle.lot_stream.specs.declared.status.Status.TheVariants.{Stopped};
-ghost use Rattle.lot_cli.specs.Reports.{Concludes, Reports, ShowsReport, ShowsAllRows, ShowsSome, form_of, report_line};
+ghost use Rattle.lot_cli.specs.Reports.{Concludes, Reports, ShowsReport, ShowsAllRows, ShowsSome, asked_for, form_of, legs_for, report_line};
 ghost use Rattle.lot_cli.specs.Reports.{ShowsAllGainsAs, ShowsAllHoldingsAs, ShowsGainsAs, ShowsHoldingsAs, ShowsSomeGainsAs, ShowsSomeHoldingsAs};
 ghost use Rattle.lot_cli.specs.Reports.{ShowsBook, ShowsDigest, ShowsDigestOfTables, ShowsSomeDigest, digest_writing, written_for};
 ghost use Rattle.lot_cli.specs.Says.{Says, told};
@@ -19,17 +21,20 @@ ghost use Rattle.sqlite.specs.State.{HasCleanDisk};
 use crate::action::Served;
 use crate::halt::Halt;
 use crate::run::{halted, tell};
+use lot_activity::Scope;
 use lot_args::{Format, Report};
-use lot_base::Day;
+use lot_base::{Commodity, Day};
 use lot_book_report::{
     ShowFault, digest_book, show_dump, show_gains, show_gains_csv, show_holdings,
     show_holdings_csv, show_journal,
 };
 use lot_io::CountedWrite;
+use lot_noted::RegisterScope;
+use lot_register_report::show_register;
 use lot_report::print_texts;
 use lot_store::{Book, HandedBack, adopt};
 use lot_stream::Status;
-use lot_sums::show_gains_by;
+use lot_sums::{show_activity, show_gains_by, show_holdings_on};
 use lot_tally::TableForm;
 use sqlite::{Alter, Connection};
 use std::alloc::Global;
@@ -99,7 +104,7 @@ pub(crate) fn write_whole<W: CountedWrite, S: Alter>(
     ensures status { IsStatus result }
 {
     let shown = show(alloc, report, book, writer);
-    conclude(writer, shown)
+    conclude(writer, shown, Status::Accepted)
 }
 
 /// Writes a report of a book, as far as its fault lets it. Nothing is flushed.
@@ -120,6 +125,9 @@ fn show<W: CountedWrite, S: Alter>(
 {
     match report {
         Report::Holdings { day, format } => holdings(alloc, *day, *format, book, writer),
+        Report::HoldingsOn { on, day, format } => {
+            show_holdings_on(alloc, book, *on, *day, form_of(*format), writer)
+        }
         Report::Gains {
             first,
             last,
@@ -131,6 +139,26 @@ fn show<W: CountedWrite, S: Alter>(
             by,
             format,
         } => show_gains_by(alloc, book, *first, *last, by, form_of(*format), writer),
+        Report::Register {
+            account,
+            commodity,
+            first,
+            last,
+            format,
+        } => {
+            let scope = legs_of(account, commodity, *last);
+            show_register(alloc, book, &scope, *first, form_of(*format), writer)
+        }
+        Report::Activity {
+            account,
+            length,
+            first,
+            last,
+            format,
+        } => {
+            let scope = scope_of(account, *first, *last);
+            show_activity(alloc, book, *length, &scope, form_of(*format), writer)
+        }
         Report::Journal => show_journal(book, writer),
         Report::Dump => show_dump(book, writer),
     }
@@ -187,8 +215,44 @@ fn gains<W: CountedWrite, S: Alter>(
     }
 }
 
+/// Returns which legs a register is over.
+fn legs_of<'a>(
+    account: &'a String,
+    commodity: &'a Option<Commodity>,
+    last: Option<Day>,
+) -> RegisterScope<'a>
+    ensures { legs_in result ≡ legs_for account.now commodity.now last }
+{
+    RegisterScope {
+        account: account.as_str(),
+        commodity: text_of(commodity),
+        last,
+    }
+}
+
+/// Returns the text of a commodity, where there is one.
+fn text_of(commodity: &Option<Commodity>) -> Option<&str>
+    ensures { option_map (λ text. text.now) result ≡ commodity.now }
+{
+    match commodity {
+        Some(commodity) => Some(commodity.as_str()),
+        None => None,
+    }
+}
+
+/// Returns which legs a report of activity is over.
+fn scope_of(account: &Option<String>, first: Option<Day>, last: Option<Day>) -> Scope<'_>
+    ensures { asked_in result ≡ asked_for account.now first last }
+{
+    Scope {
+        account: account.as_deref(),
+        first,
+        last,
+    }
+}
+
 /// Returns the form of a table in that format.
-fn form_of(format: Format) -> TableForm
+pub(crate) fn form_of(format: Format) -> TableForm
     ensures { result ≡ form_of format }
 {
     match format {
@@ -211,7 +275,7 @@ pub(crate) fn write_digest<W: CountedWrite, S: Alter>(writer: &mut W, book: Book
     let mut book = book;
     let shown = show_digest(&mut book, writer);
     Served {
-        status: conclude(writer, shown),
+        status: conclude(writer, shown, Status::Accepted),
         halt: None,
         conn: book.into_connection(),
     }
@@ -235,18 +299,22 @@ fn show_digest<W: CountedWrite, S: Alter>(
     Ok(digest.print_behind("book verified\n", writer)?)
 }
 
-/// Ends a report: flushes it where it is whole, else reports why it isn't. Nothing more is asked of a writer that failed.
-/// Returns the status of the program.
-fn conclude<W: CountedWrite>(writer: &mut W, shown: Result<(), ShowFault>) -> u8
+/// Ends a report: flushes it where it is whole, which ends so, else reports why it isn't. Nothing more is asked of a writer that
+/// failed. Returns the status of the program.
+pub(crate) fn conclude<W: CountedWrite>(
+    writer: &mut W,
+    shown: Result<(), ShowFault>,
+    whole: Status,
+) -> u8
     ensures concludes { (before : Option WriteCalls) → HasCause shown (record {
       before = before;
       after = W.calls writer.old;
-    }) → Concludes shown (W.contents writer.old) (W.contents writer.new) (writes_between
+    }) → Concludes whole shown (W.contents writer.old) (W.contents writer.new) (writes_between
         (W.calls writer.old) (W.calls writer.new)) result }
     ensures status { IsStatus result }
 {
     match shown {
-        Ok(()) => tell(writer, Ok(()), Status::Accepted),
+        Ok(()) => tell(writer, Ok(()), whole),
         Err(fault) if fault.is_of_writer() => Status::Stopped.code(),
         Err(fault) => stopped(writer, fault),
     }

@@ -9,7 +9,7 @@ use Rattle.sqlite_disk.specs.declared.Disk.{Ghosts}
 use Rattle.sqlite_schema.specs.declared.schema.Schema.{Schema}
 use Rattle.sqlite_store.specs.declared.store.FileStore.{FileStore}
 use Rattle.lot_args.specs.declared.action.Action.{Action}
-use Rattle.lot_args.specs.declared.action.Action.TheVariants.{Check, Init, Migrate, Post, PostRow, Import, ImportBy, Report, Restore, Verify}
+use Rattle.lot_args.specs.declared.action.Action.TheVariants.{Check, Init, Migrate, Post, PostRow, Import, ImportBy, Report, Reconcile, Restore, Verify}
 use Rattle.lot_args.specs.declared.action.Keeping.{Keeping}
 use Rattle.lot_args.specs.declared.action.Keeping.TheVariants.{AllOrNone, Each}
 use Rattle.lot_args.specs.declared.action.Restore.{Restore as RestoreOf}
@@ -145,6 +145,9 @@ module _ (old new : State) (clean : HasCleanDisk new) (book : List Entry) (stand
       ran_of before written calls asked.rounding (ExportMeans asked.batch asked.profile asked.except.items)
       (IsFaultyExport asked.profile asked.except.items) asked.keeping input told serves
   served (Report path report) on input before written calls told serves = reported before written calls _ told serves
+  served (Reconcile asked) on input before written calls told (inl (fault, gives, untouched, said)) = unchanged untouched.crash
+  served (Reconcile asked) on input before written calls told (inr (file, all, lines, is, agrees, reports)) =
+      reported before written calls _ told reports
   served (Restore asked) on input before written calls told serves = restored before written calls asked input told serves
   served (Verify path saying) on input before written calls told serves = verified before written calls saying told serves
 

@@ -10,7 +10,7 @@ use Rattle.sqlite_disk.specs.declared.Disk.{Ghosts}
 use Rattle.sqlite_disk.specs.declared.Files.{Files}
 use Rattle.sqlite_store.specs.declared.store.FileStore.{FileStore}
 use Rattle.lot_args.specs.declared.action.Action.{Action}
-use Rattle.lot_args.specs.declared.action.Action.TheVariants.{Check, Init, Migrate, Post, PostRow, Import, ImportBy, Report, Restore, Verify}
+use Rattle.lot_args.specs.declared.action.Action.TheVariants.{Check, Init, Migrate, Post, PostRow, Import, ImportBy, Report, Reconcile, Restore, Verify}
 use Rattle.lot_args.specs.declared.action.Keeping.{Keeping}
 use Rattle.lot_args.specs.declared.action.Keeping.TheVariants.{AllOrNone, Each}
 use Rattle.lot_command.specs.declared.key.Key.{Key}
@@ -72,6 +72,7 @@ sent_by (Import asked) call serves =
 sent_by (ImportBy asked) call serves =
     sent_of call.old call.new call.before call.written call.calls asked.rounding _ _ asked.keeping call.told serves
 sent_by (Report book report) call serves = nothing_sent
+sent_by (Reconcile asked) call serves = nothing_sent
 sent_by (Restore asked) call serves = nothing_sent
 sent_by (Verify book saying) call serves = nothing_sent
 
@@ -87,6 +88,7 @@ IsOnBook (PostRow book batch reference rounding) = ⊤
 IsOnBook (Import asked) = ⊤
 IsOnBook (ImportBy asked) = ⊤
 IsOnBook (Report book report) = ⊤
+IsOnBook (Reconcile asked) = ⊤
 IsOnBook (Restore asked) = ⊤
 IsOnBook (Verify book saying) = ⊤
 

@@ -2,7 +2,7 @@
 use Rattle.std.specs.Prelude.{ℕ, Bool, false, true, List, Option, None, Some, option_map}
 use Rattle.std.specs.String.{string_bytes}
 use Rattle.lot_args.specs.declared.action.Action.{Action}
-use Rattle.lot_args.specs.declared.action.Action.TheVariants.{Check, Init, Migrate, Post, PostRow, Import, ImportBy, Report, Restore, Verify}
+use Rattle.lot_args.specs.declared.action.Action.TheVariants.{Check, Init, Migrate, Post, PostRow, Import, ImportBy, Report, Reconcile, Restore, Verify}
 use Rattle.lot_args.specs.declared.request.Effect.{Effect}
 use Rattle.lot_args.specs.declared.request.Effect.TheVariants.{Keep, DryRun}
 use Rattle.lot_files.specs.declared.opened.Access.{Access}
@@ -18,6 +18,7 @@ path_of (PostRow book batch reference rounding) = Some (string_bytes book)
 path_of (Import «import») = Some (string_bytes «import».book)
 path_of (ImportBy «import») = Some (string_bytes «import».book)
 path_of (Report book report) = Some (string_bytes book)
+path_of (Reconcile asked) = Some (string_bytes asked.book)
 path_of (Restore restore) = Some (string_bytes restore.book)
 path_of (Verify book saying) = Some (string_bytes book)
 
@@ -47,5 +48,6 @@ access_of (PostRow book batch reference rounding) effect = to_change effect
 access_of (Import «import») effect = to_change effect
 access_of (ImportBy «import») effect = to_change effect
 access_of (Report book report) effect = Read
+access_of (Reconcile asked) effect = Read
 access_of (Restore restore) effect = to_change effect
 access_of (Verify book saying) effect = Read

@@ -20,6 +20,7 @@ pub fn path_of(action: &Action) -> Option<&str>
         Action::Post(post) => Some(post.book.as_str()),
         Action::Import(import) => Some(import.book.as_str()),
         Action::ImportBy(import) => Some(import.book.as_str()),
+        Action::Reconcile(asked) => Some(asked.book.as_str()),
         Action::Restore(restore) => Some(restore.book.as_str()),
     }
 }
@@ -46,7 +47,7 @@ pub fn access_of(action: &Action, effect: Effect) -> Access
     ensures { result ≡ access_of action.now effect }
 {
     match action {
-        Action::Report { .. } | Action::Verify { .. } => Access::Read,
+        Action::Report { .. } | Action::Reconcile(_) | Action::Verify { .. } => Access::Read,
         Action::Init { .. }
         | Action::Migrate { .. }
         | Action::Post(_)

@@ -6,7 +6,7 @@ use Rattle.lot_stream.specs.Input.{EndsWell, longest_input}
 use Rattle.lot_stream.specs.declared.input.SlurpFault.{SlurpFault}
 use Rattle.lot_input.specs.Input.{Gives, GivesNone, IsAllOf, Reading}
 use Rattle.lot_input.specs.declared.fault.InputFault.{InputFault}
-use Rattle.lot_input.specs.declared.fault.InputFault.TheVariants.{Unasked, Unread, Text, Rows, Cash, Export, Memory}
+use Rattle.lot_input.specs.declared.fault.InputFault.TheVariants.{Unasked, Unread, Text, Rows, Cash, Export, Statement, Memory}
 
 -- the input is had, and read as a text or a file
 module _ (reading : Reading) (input read : List ℕ) (count : ℕ) (is : read ≡ input) (all : IfSome reading.bytes (λ bytes. input ≡ bytes))
@@ -30,4 +30,5 @@ module _ (reading : Reading) (input read : List ℕ) (count : ℕ) (is : read �
   none_of IsFaulty had asked (Err (Rows fault)) faulty = (read, had_as, faulty)
   none_of IsFaulty had asked (Err (Cash fault)) faulty = (read, had_as, faulty)
   none_of IsFaulty had asked (Err (Export fault)) faulty = (read, had_as, faulty)
+  none_of IsFaulty had asked (Err (Statement fault)) faulty = (read, had_as, faulty)
   none_of IsFaulty had asked (Err Memory) faulty = (read, had_as, faulty)

@@ -6,7 +6,7 @@ use Rattle.lot_stream.specs.Input.{EndsFor, EndsWell, longest_input}
 use Rattle.lot_stream.specs.declared.input.SlurpFault.{SlurpFault}
 use Rattle.lot_stream.specs.declared.input.SlurpFault.TheVariants as slurp
 use Rattle.lot_input.specs.declared.fault.InputFault.{InputFault}
-use Rattle.lot_input.specs.declared.fault.InputFault.TheVariants.{Unasked, Unread, Text, Rows, Cash, Export, Memory}
+use Rattle.lot_input.specs.declared.fault.InputFault.TheVariants.{Unasked, Unread, Text, Rows, Cash, Export, Statement, Memory}
 
 -- what is known of a reader: the bytes that it had, those that it has left, and what its calls came to
 pub record Reading : Type 0 where
@@ -48,4 +48,5 @@ GivesNone IsFaulty reading (Text fault) = (input : List ℕ) × IsAllOf reading 
 GivesNone IsFaulty reading (Rows fault) = (input : List ℕ) × IsAllOf reading input × IsFaulty input (Rows fault)
 GivesNone IsFaulty reading (Cash fault) = (input : List ℕ) × IsAllOf reading input × IsFaulty input (Cash fault)
 GivesNone IsFaulty reading (Export fault) = (input : List ℕ) × IsAllOf reading input × IsFaulty input (Export fault)
+GivesNone IsFaulty reading (Statement fault) = (input : List ℕ) × IsAllOf reading input × IsFaulty input (Statement fault)
 GivesNone IsFaulty reading Memory = (input : List ℕ) × IsAllOf reading input × IsFaulty input Memory

@@ -11,9 +11,10 @@ use Rattle.lot_import.specs.declared.fault.KeyedFault.TheVariants as cash
 use Rattle.lot_import.specs.declared.fault.RowsFault.{RowsFault}
 use Rattle.lot_import.specs.declared.fault.RowsFault.TheVariants as rows
 use Rattle.lot_input.specs.ExportLine.{export_line, status_of_export}
+use Rattle.lot_input.specs.StatementLine.{statement_line, status_of_statement}
 use Rattle.lot_report.specs.Printed.{line}
 use Rattle.lot_input.specs.declared.fault.InputFault.{InputFault}
-use Rattle.lot_input.specs.declared.fault.InputFault.TheVariants.{Unasked, Unread, Text, Rows, Cash, Export, Memory}
+use Rattle.lot_input.specs.declared.fault.InputFault.TheVariants.{Unasked, Unread, Text, Rows, Cash, Export, Statement, Memory}
 
 -- ---- the line
 
@@ -49,6 +50,7 @@ input_line (Text fault) = fault_line (fault_of_text fault)
 input_line (Rows fault) = rows_line fault
 input_line (Cash fault) = cash_line fault
 input_line (Export fault) = export_line fault
+input_line (Statement fault) = statement_line fault
 input_line Unasked = memory_line
 input_line Memory = memory_line
 
@@ -71,5 +73,6 @@ status_of_input (Text fault) = status_of (fault_of_text fault)
 status_of_input (Rows fault) = status_of_rows fault
 status_of_input (Cash fault) = status_of_cash fault
 status_of_input (Export fault) = status_of_export fault
+status_of_input (Statement fault) = status_of_statement fault
 status_of_input Unasked = Stopped
 status_of_input Memory = Stopped

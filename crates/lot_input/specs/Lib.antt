@@ -4,4 +4,6 @@ pub mod Text
 pub mod Rows
 pub mod ExportLine
 pub mod Exported
+pub mod Statement
+pub mod StatementLine
 pub mod InputLine

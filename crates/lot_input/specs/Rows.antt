@@ -9,7 +9,7 @@ use Rattle.lot_import.specs.declared.fault.KeyedFault.TheVariants as cash
 use Rattle.lot_import.specs.declared.row.Row.{Row}
 use Rattle.lot_input.specs.Keyed.{import_source}
 use Rattle.lot_input.specs.declared.fault.InputFault.{InputFault}
-use Rattle.lot_input.specs.declared.fault.InputFault.TheVariants.{Unasked, Unread, Text, Rows, Cash, Export, Memory}
+use Rattle.lot_input.specs.declared.fault.InputFault.TheVariants.{Unasked, Unread, Text, Rows, Cash, Export, Statement, Memory}
 use Rattle.lot_rounding.specs.declared.asked.Asked.{Asked}
 
 -- the input is a broker file, and these are its rows from that number on as they are handed in, without those whose `ref` is one
@@ -38,4 +38,5 @@ IsFaultyFile decimals except input (Rows fault) = HasFault input fault
 IsFaultyFile decimals except input (Cash fault) =
     (rows : List Row) × AreRows input rows × HasCashFault decimals except rows fault
 IsFaultyFile decimals except input (Export fault) = ⊥
+IsFaultyFile decimals except input (Statement fault) = ⊥
 IsFaultyFile decimals except input Memory = ⊥

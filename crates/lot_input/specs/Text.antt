@@ -5,7 +5,7 @@ use Rattle.lot_command.specs.declared.command.Command.{Command}
 use Rattle.lot_command.specs.declared.key.Key.{Key}
 use Rattle.lot_input.specs.Keyed.{keyed_from, post_source, row_key}
 use Rattle.lot_input.specs.declared.fault.InputFault.{InputFault}
-use Rattle.lot_input.specs.declared.fault.InputFault.TheVariants.{Unasked, Unread, Text, Rows, Cash, Export, Memory}
+use Rattle.lot_input.specs.declared.fault.InputFault.TheVariants.{Unasked, Unread, Text, Rows, Cash, Export, Statement, Memory}
 use Rattle.lot_read.specs.Text.{IsFaultOf, Reads}
 use Rattle.lot_rounding.specs.Asked.{plain}
 use Rattle.lot_rounding.specs.declared.asked.Asked.{Asked}
@@ -37,4 +37,5 @@ IsFaultyText input (Text fault) = IsFaultOf input fault
 IsFaultyText input (Rows fault) = ⊥
 IsFaultyText input (Cash fault) = ⊥
 IsFaultyText input (Export fault) = ⊥
+IsFaultyText input (Statement fault) = ⊥
 IsFaultyText input Memory = (commands : List Command) × Reads input commands

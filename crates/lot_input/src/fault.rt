@@ -2,6 +2,7 @@ ghost use Rattle.std.specs.Prelude.{◌≡◌, IfErr, OnErr, OnOk};
 ghost use Rattle.lot_io.specs.Writes.{HasFailed, NoneFailed};
 ghost use Rattle.lot_report.specs.Written.{WritesLine};
 ghost use Rattle.lot_input.specs.InputLine.{cash_line, cause_name, input_line, memory_line, rows_line, status_of_cash, status_of_input, status_of_rows};
+ghost use Rattle.lot_input.specs.StatementLine.{line_cause_name, statement_line, status_of_statement};
 
 use crate::export_fault::{print_export_fault, status_of_export};
 use itoa::Buffer;
@@ -10,6 +11,7 @@ use lot_import::{Cause, KeyedFault, RowsFault};
 use lot_io::CountedWrite;
 use lot_read::TextFault;
 use lot_report::{PrintFault, print_texts};
+use lot_statement::{LineCause, StatementFault};
 use lot_stream::{Fault, SlurpFault, Status, print_fault};
 use std::alloc::AllocError;
 use thiserror::Error;
@@ -35,6 +37,9 @@ pub enum InputFault {
     /// It is a broker's export that comes to nothing by its profile.
     #[error("{0}")]
     Export(ExportFault),
+    /// It isn't a statement.
+    #[error("{0}")]
+    Statement(StatementFault),
     /// Out of memory for the keys of the commands of ledger text.
     #[error("out of memory")]
     Memory,
@@ -106,6 +111,7 @@ impl InputFault {
             InputFault::Rows(fault) => status_of_rows(fault),
             InputFault::Cash(fault) => status_of_cash(fault),
             InputFault::Export(fault) => status_of_export(fault),
+            InputFault::Statement(fault) => status_of_statement(fault),
             InputFault::Unasked | InputFault::Memory => Status::Stopped,
         }
     }
@@ -129,6 +135,7 @@ pub fn print_input_fault<W: CountedWrite>(
         InputFault::Rows(fault) => print_rows_fault(writer, fault),
         InputFault::Cash(fault) => print_cash_fault(writer, fault),
         InputFault::Export(fault) => print_export_fault(writer, fault),
+        InputFault::Statement(fault) => print_statement_fault(writer, fault),
         InputFault::Unasked | InputFault::Memory => print_memory(writer),
     }
 }
@@ -222,5 +229,54 @@ fn cause_name(cause: Cause) -> &'static str
         Cause::Currency => "Currency",
         Cause::Fee => "Fee",
         Cause::Lot => "Lot",
+    }
+}
+
+fn status_of_statement(fault: StatementFault) -> Status
+    ensures { result ≡ status_of_statement fault }
+{
+    match fault {
+        StatementFault::Memory => Status::Stopped,
+        StatementFault::BadHeader | StatementFault::BadRow { .. } => Status::BadInput,
+    }
+}
+
+/// Writes the same of an input that is no statement.
+fn print_statement_fault<W: CountedWrite>(
+    writer: &mut W,
+    fault: StatementFault,
+) -> Result<(), PrintFault>
+    ensures bytes { WritesLine (W.contents writer.old) (W.contents writer.new) result
+        (statement_line fault) }
+    ensures fault { IfErr result (λ fault. fault ≡ PrintFault.Write) }
+    ensures cause { OnErr result (HasFailed (W.calls writer.new)) }
+    ensures none_failed { OnOk result (NoneFailed (W.calls writer.old) (W.calls writer.new)) }
+{
+    let mut digits = Buffer::new();
+    match fault {
+        StatementFault::BadHeader => print_texts(writer, &["fault header C1 BadHeader\n"]),
+        StatementFault::BadRow { row, cause } => {
+            let texts = [
+                "fault row ",
+                digits.format(row),
+                " C2 BadRow ",
+                line_cause_name(cause),
+                "\n",
+            ];
+            print_texts(writer, &texts)
+        }
+        StatementFault::Memory => print_memory(writer),
+    }
+}
+
+/// Returns the name of the cause by which a row of a statement is faulty.
+fn line_cause_name(cause: LineCause) -> &'static str
+    ensures { result.now ≡ line_cause_name cause }
+{
+    match cause {
+        LineCause::Length => "Length",
+        LineCause::Commodity => "Commodity",
+        LineCause::Units => "Units",
+        LineCause::Repeated => "Repeated",
     }
 }

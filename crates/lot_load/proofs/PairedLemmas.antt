@@ -1,5 +1,7 @@
--- Rows of lots and of opening numbers that are compared one after another.
+-- Rows of lots and of opening numbers that are compared one after another, and the pairs of which all is known.
 use Rattle.std.specs.Prelude.{◌≡◌, ◌≢◌, ◌↔◌, ◌⊎◌, ℕ, suc, ◌==◌, Bool, true, ◌&&◌, List, [], ◌∷◌, length, map, Option, None, Some}
+use Rattle.std.specs.BTreeSet.{BTreeSet, InsertsAll, IsFromIterResult, difference}
+use Rattle.std.specs.List.{AllByRecursion}
 use Rattle.std.specs.Option.{option_eq}
 use Rattle.std.specs.Ordering.{int_eq}
 use Rattle.std.proofs.Common.{refl, sym, ap, subst, ◌∙◌, inl, inr}
@@ -8,10 +10,22 @@ use Rattle.std.proofs.lemmas.List.{length-map}
 use Rattle.std.proofs.lemmas.Bool.Decides.{Decides-eqb, Decides-int_eq}
 use Rattle.lot_base.specs.Text.{same_text}
 use Rattle.lot_base.proofs.TextLemmas.{one_text, same_text-itself}
+use Rattle.sqlite_keyed.proofs.ListLemmas.{all_weaker}
+use Rattle.sqlite_rules.specs.Lists.{Has as IsAmong}
+use Rattle.sqlite_rules.proofs.ListLemmas.{all_from}
+use Rattle.lot_command.specs.declared.command.Command.{Command}
 use Rattle.lot_cost.specs.declared.lot_key.LotKey.{LotKey}
+use Rattle.lot_book.specs.Change.{pair_cmp}
+use Rattle.lot_book.specs.Touched.{pairs_in}
+use Rattle.lot_book.specs.declared.change.Pair.{Pair}
+use Rattle.lot_rows.specs.Tables.{Tables}
 use Rattle.lot_rows.specs.declared.lot.LotRow.{LotRow}
 use Rattle.lot_rows.specs.declared.opening.OpeningRow.{OpeningRow}
-use Rattle.lot_load.specs.Paired.{ArePaired}
+use Rattle.lot_load.specs.Paired.{ArePaired, AreWholeOrPaired, HaveAllPaired, HavePaired, whole_pairs}
+use Rattle.lot_load.specs.declared.kept.Kept.{Kept}
+use Rattle.lot_load.proofs.WholeLemmas.{all_added, all_lacking}
+use Rattle.lot_view.proofs.TouchedLemmas.{exact_pairs, of_items, pairs_total}
+use Rattle.lot_view.specs.declared.touched.Touched.{Touched}
 
 -- ---- two lots
 
@@ -98,3 +112,44 @@ module _ (lots : List LotRow) (openings : List OpeningRow) where
 pub not_as_long : (lots : List LotRow) (openings : List OpeningRow) → length lots ≢ length openings → ¬ ArePaired lots openings
 not_as_long lots openings other paired =
     other (sym (length-map lots (λ (row : LotRow). row.lot)) ∙ ap length paired ∙ length-map openings (λ (row : OpeningRow). row.lot))
+
+-- ---- pairs of which all is known
+
+module _ (kept : Option Kept) (tables : Tables) where
+  -- all of it was known before, or the tables have the same lots of it
+  abbrev IsWholeOrPaired : Pair → Type 0
+  IsWholeOrPaired pair = IsAmong (whole_pairs kept) pair ⊎ HavePaired pair tables
+
+  known_before : AreWholeOrPaired kept tables (whole_pairs kept)
+  known_before = all_from IsWholeOrPaired (whole_pairs kept) (λ pair among. inl among)
+
+  paired_now : (pairs : List Pair) → HaveAllPaired pairs tables → AreWholeOrPaired kept tables pairs
+  paired_now pairs paired = all_weaker (λ (pair : Pair). HavePaired pair tables) IsWholeOrPaired (λ pair is. inr is) pairs paired
+
+module _ (kept : Kept) (tables : Tables) where
+  -- where it is so of those of which not all is known
+  pub pairs_touched : (touched : BTreeSet Pair) → HaveAllPaired (difference pair_cmp touched kept.whole.pairs) tables
+      → AreWholeOrPaired (Some kept) tables touched.keys
+  pairs_touched touched paired =
+      all_lacking pair_cmp pairs_total exact_pairs (IsWholeOrPaired (Some kept) tables) kept.whole.pairs touched.keys
+      (known_before (Some kept) tables) (paired_now (Some kept) tables (difference pair_cmp touched kept.whole.pairs) paired)
+
+  -- and of those that are added to what is known whole
+  pub pairs_added : (after : BTreeSet Pair) (more : List Pair) → InsertsAll pair_cmp kept.whole.pairs more after → HaveAllPaired more tables
+      → AreWholeOrPaired (Some kept) tables after.keys
+  pairs_added after more inserts paired =
+      all_added pair_cmp pairs_total exact_pairs (IsWholeOrPaired (Some kept) tables) kept.whole.pairs after more inserts
+      (known_before (Some kept) tables) (paired_now (Some kept) tables more paired)
+
+-- so it is where nothing more was known than what was kept
+module _ (kept : Option Kept) (begun : Kept) (tables : Tables) (same : whole_pairs (Some begun) ≡ whole_pairs kept) where
+  pub kept_pairs : (pairs others : List Pair) → others ≡ pairs → AreWholeOrPaired (Some begun) tables pairs → AreWholeOrPaired kept tables others
+  kept_pairs pairs others is found =
+      subst (AreWholeOrPaired kept tables) (sym is)
+      (subst (λ (whole : List Pair). AllByRecursion (λ (pair : Pair). IsAmong whole pair ⊎ HavePaired pair tables) pairs) same found)
+
+  pub looked_pairs : (command : Command) (t : Touched) → IsFromIterResult pair_cmp (pairs_in command) t.pairs
+      → AreWholeOrPaired (Some begun) tables t.pairs.keys → AreWholeOrPaired kept tables (pairs_in command)
+  looked_pairs command t are found =
+      kept_pairs (pairs_in command) (pairs_in command) refl
+      (of_items pair_cmp pairs_total exact_pairs (IsWholeOrPaired (Some begun) tables) (pairs_in command) t.pairs are found)

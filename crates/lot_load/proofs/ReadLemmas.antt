@@ -124,6 +124,11 @@ pub on_ok : {T : Type 0} {One Other : Type 0} (result : Result T Fault) → (One
 on_ok (Ok answer) more one = more one
 on_ok (Err fault) more one = tt
 
+-- what is so, whatever the answer
+pub if_ok : {T : Type 0} {Other : Type 0} (result : Result T Fault) → Other → OnOk result Other
+if_ok (Ok answer) so = so
+if_ok (Err fault) so = tt
+
 -- ---- the answer
 
 pub tells : {T : Type 0} (says : T → List Entry → Type 0) (old new : State) (answer : T) → HasRead (says answer) old new

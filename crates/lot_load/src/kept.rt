@@ -1,4 +1,4 @@
-ghost use Rattle.std.specs.Prelude.{◌≡◌, ◌<◌, [], ◌∷◌, ◌++◌, IfOk, List, length, option_map};
+ghost use Rattle.std.specs.Prelude.{◌≡◌, ◌<◌, [], ◌∷◌, ◌++◌, IfOk, List, Some, length, option_map};
 ghost use Rattle.std.specs.String.{string_bytes};
 ghost use Rattle.lot_book.specs.Book.{IsBook, entry_of};
 ghost use Rattle.lot_book.specs.Change.{IsAcceptedUnder};
@@ -9,6 +9,7 @@ ghost use Rattle.lot_book.specs.Refusals.{most_entries};
 ghost use Rattle.lot_command.specs.declared.key.Key.{Key};
 ghost use Rattle.lot_load.specs.Kept.{Keeps, seen, seen_with_openings};
 ghost use Rattle.lot_load.specs.Known.{turned_to};
+ghost use Rattle.lot_load.specs.Paired.{whole_pairs};
 
 use lot_book::Change;
 use lot_command::Command;
@@ -30,7 +31,8 @@ pub struct Kept {
 impl Kept {
     /// Returns what is known of a book with so many entries, of which nothing else is known.
     pub(crate) fn new(alloc: Global, entries: u32) -> Kept
-        ensures { (book : List Entry) → entries ≡ length book → Keeps result book }
+        ensures keeps { (book : List Entry) → entries ≡ length book → Keeps result book }
+        ensures none { whole_pairs (Some result) ≡ [] }
     {
         let whole = Touched {
             accounts: BTreeSet::new(alloc),
@@ -68,13 +70,16 @@ impl Kept {
     /// lost.
     pub fn record(self, command: &Command, change: &Change) -> Result<Kept, AllocError>
         requires { (seen self).entries < most_entries }
-        ensures { IfOk result (λ after. (edition : Edition) (entries : List Entry) (key : Key)
+        ensures keeps { IfOk result (λ after. (edition : Edition) (entries : List Entry) (key : Key)
             → IsBook entries → Keeps self entries
             → AgreesWithOpenings (seen_with_openings self) (facts_with_openings entries key)
             command.now
             → IsAcceptedUnder (ties_for edition (seen_with_openings self)) (seen self)
             command.now change.now
             → Keeps after (entries ++ entry_of key command.now change.now.legs ∷ [])) }
+        // Of no further pair all is known then.
+        ensures whole { IfOk result (λ after.
+            whole_pairs (Some after) ≡ whole_pairs (Some self)) }
     {
         let Kept { view, whole } = self;
         let view = view.record(command, change)?;

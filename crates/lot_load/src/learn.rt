@@ -1,7 +1,9 @@
-ghost use Rattle.std.specs.Prelude.{◌≡◌, IsTrue};
+ghost use Rattle.std.specs.Prelude.{◌≡◌, IsTrue, OnOk, Some};
 ghost use Rattle.lot_load.specs.Kept.{Covers, Keeps};
 ghost use Rattle.lot_load.specs.Known.{KnowsTouched};
+ghost use Rattle.lot_load.specs.Paired.{AreWholeOrPaired, FindsAllPaired, KeepsPaired};
 ghost use Rattle.lot_load.specs.Tells.{Teaches, Tells};
+ghost use Rattle.lot_rows.specs.Tables.{Has, Tables};
 ghost use Rattle.lot_view.specs.View.{known_with_openings};
 ghost use Rattle.sqlite.specs.State.{HasCleanDisk};
 
@@ -28,6 +30,11 @@ pub(crate) fn learn_lacking<D: Queryable>(
     ensures tells { Tells
         (λ _ entries. Keeps kept.old entries → Covers touched entries kept.old kept.new)
         (D.shown conn.old) (D.shown conn.new) result }
+    ensures paired { HasCleanDisk (D.shown conn.new) → OnOk result ((tables : Tables)
+        → Has (D.shown conn.old) tables
+        → AreWholeOrPaired (Some kept.old) tables touched.pairs.keys) }
+    ensures whole { OnOk result (KeepsPaired (Some kept.old) (Some kept.new)
+        (D.shown conn.old) (D.shown conn.new)) }
 {
     let lacking = lacking(touched, &kept.whole);
     learn_touched(alloc, conn, &lacking, &mut kept.view)?;
@@ -46,6 +53,8 @@ fn learn_touched<D: Queryable>(
     ensures same_reference { D.reference conn.new ≡ D.reference conn.old }
     ensures teaches { Teaches (KnowsTouched touched.now)
         (known_with_openings view.old) (known_with_openings view.new)
+        (D.shown conn.old) (D.shown conn.new) result }
+    ensures paired { FindsAllPaired touched.now.pairs.keys
         (D.shown conn.old) (D.shown conn.new) result }
 {
     learn_accounts(alloc, conn, &touched.accounts, view)?;

@@ -1,10 +1,11 @@
-ghost use Rattle.std.specs.Prelude.{◌≡◌, IsTrue, List};
+ghost use Rattle.std.specs.Prelude.{◌≡◌, IfOk, IsTrue, List, Some};
 ghost use Rattle.lot_book.specs.Book.{IsBook};
 ghost use Rattle.lot_book.specs.Facts.{Entry};
 ghost use Rattle.lot_book.specs.Openings.{AgreesWithOpenings, facts_with_openings};
 ghost use Rattle.lot_stored.specs.StandFor.{AreOfBook, StandFor};
 ghost use Rattle.lot_load.specs.Damage.{FindsDamage, FindsText};
 ghost use Rattle.lot_load.specs.Kept.{IsOf, Keeps, seen, seen_with_openings};
+ghost use Rattle.lot_load.specs.Paired.{FindsPaired, KeepsPaired, whole_pairs};
 ghost use Rattle.lot_load.specs.Tells.{Tells};
 ghost use Rattle.lot_rows.specs.Tables.{layout};
 ghost use Rattle.lot_table.specs.Book.{always};
@@ -26,7 +27,8 @@ use std::alloc::Global;
 ///
 /// The error is `Damaged` only where the tables stand for no book, whatever is kept. Where the text under the key is the
 /// canonical text of no command, the call fails, whatever the command is. Else it gives that text, or that there is none,
-/// whatever else the tables hold.
+/// whatever else the tables hold. The call fails, too, where the command posts to an account and a commodity whose lots aren't
+/// the same in the tables of lots and of opening numbers, unless all of these is known already.
 pub fn look_on<D: Queryable>(
     alloc: Global,
     conn: &mut D,
@@ -45,6 +47,10 @@ pub fn look_on<D: Queryable>(
     ensures damage { FindsDamage key.now (D.shown conn.old) (D.shown conn.new) result }
     ensures text { FindsText (λ now. (seen now).text) key.now
         (D.shown conn.old) (D.shown conn.new) result }
+    ensures paired { FindsPaired kept command.now
+        (D.shown conn.old) (D.shown conn.new) result }
+    ensures whole { IfOk result (λ now. KeepsPaired kept (Some now)
+        (D.shown conn.old) (D.shown conn.new)) }
 {
     let text = find_text(alloc, conn, key)?;
     let mut kept = begin(alloc, conn, kept)?;
@@ -60,6 +66,7 @@ fn begin<D: Queryable>(alloc: Global, conn: &mut D, kept: Option<Kept>) -> Resul
     ensures same_reference { D.reference conn.new ≡ D.reference conn.old }
     ensures tells { Tells (λ begun entries. IsOf kept entries → Keeps begun entries)
         (D.shown conn.old) (D.shown conn.new) result }
+    ensures whole { IfOk result (λ begun. whole_pairs (Some begun) ≡ whole_pairs kept) }
 {
     match kept {
         Some(kept) => Ok(kept),

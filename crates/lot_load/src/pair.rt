@@ -1,6 +1,6 @@
 ghost use Rattle.std.specs.Prelude.{◌≡◌, IsTrue, None, OnOk};
 ghost use Rattle.lot_load.specs.Known.{KnowsAt, KnowsEach, KnowsHead, KnowsLots, KnowsPair};
-ghost use Rattle.lot_load.specs.Paired.{HavePaired};
+ghost use Rattle.lot_load.specs.Paired.{FindsAllPaired, HavePaired};
 ghost use Rattle.lot_load.specs.Tells.{Teaches};
 ghost use Rattle.lot_rows.specs.Tables.{Has, Tables};
 ghost use Rattle.lot_view.specs.View.{known_with_openings};
@@ -15,6 +15,8 @@ use std::alloc::Global;
 use std::collections::BTreeSet;
 
 /// Puts what there is of these accounts and commodities.
+///
+/// The call fails where the tables of lots and of opening numbers don't have the same lots of one of them.
 pub(crate) fn learn_pairs<D: Queryable>(
     alloc: Global,
     conn: &mut D,
@@ -26,6 +28,7 @@ pub(crate) fn learn_pairs<D: Queryable>(
     ensures teaches { Teaches (KnowsEach KnowsPair pairs.now.keys)
         (known_with_openings view.old) (known_with_openings view.new)
         (D.shown conn.old) (D.shown conn.new) result }
+    ensures paired { FindsAllPaired pairs.now.keys (D.shown conn.old) (D.shown conn.new) result }
 {
     for pair in pairs {
         learn_pair(alloc, conn, pair, view)?;
@@ -34,6 +37,8 @@ pub(crate) fn learn_pairs<D: Queryable>(
 }
 
 /// Puts the latest day at cost of an account and a commodity, and all that is held there.
+///
+/// The call fails where the tables of lots and of opening numbers don't have the same lots there.
 fn learn_pair<D: Queryable>(
     alloc: Global,
     conn: &mut D,
@@ -44,6 +49,8 @@ fn learn_pair<D: Queryable>(
     ensures teaches { Teaches (KnowsPair pair.now)
         (known_with_openings view.old) (known_with_openings view.new)
         (D.shown conn.old) (D.shown conn.new) result }
+    ensures paired { HasCleanDisk (D.shown conn.new) → OnOk result ((tables : Tables)
+        → Has (D.shown conn.old) tables → HavePaired pair.now tables) }
 {
     learn_head(alloc, conn, pair, view)?;
     learn_lots(alloc, conn, pair, view)?;

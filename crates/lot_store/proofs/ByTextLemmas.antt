@@ -40,7 +40,7 @@ use Rattle.lot_write.proofs.NamedLemmas.{own_no_entry}
 use Rattle.lot_write.proofs.AsPutLemmas.{left-made}
 use Rattle.lot_write.proofs.WrittenLemmas.{IsNoEntry}
 use Rattle.lot_store.specs.Apply.{LeavesAlone}
-use Rattle.lot_store.specs.ByText.{AnswersFirst, EndsByText, HasTurned, LeavesByText, RunsByText, TurnAllByText, TurnsByText}
+use Rattle.lot_store.specs.ByText.{AnswersFirst, EndsByText, EndsUnpaired, HasTurned, LeavesByText, MeetsUnpairedFirst, RunsByText, TurnAllByText, TurnsByText}
 use Rattle.lot_store.specs.declared.run.Ending.{Ending}
 use Rattle.lot_store.specs.declared.run.Ending.TheVariants.{Complete, Output, Stopped}
 use Rattle.lot_store.proofs.DamageLemmas.{of_damage_since}
@@ -166,6 +166,17 @@ module _ (old mid new : State) (since : DiskFailed mid new → DiskFailed old ne
   ends_since tables left answer (Stopped fault) ends = answers_since tables left (Err fault) ends
   ends_since tables left answer Output ends = answers_since tables left answer ends
 
+  meets_since : (tables : Tables) (left : List (Key × Command)) (answer : Result Verdict StoreFault) → MeetsUnpairedFirst tables left mid new answer
+      → MeetsUnpairedFirst tables left old new answer
+  meets_since tables [] answer meets = tt
+  meets_since tables (next ∷ left) answer meets = λ unpaired. of_damage_since old mid new since answer (meets unpaired)
+
+  unpaired_since : (tables : Tables) (left : List (Key × Command)) (answer : Result Verdict StoreFault) (ending : Ending)
+      → EndsUnpaired tables left mid new answer ending → EndsUnpaired tables left old new answer ending
+  unpaired_since tables left answer Complete ends = ends
+  unpaired_since tables left answer (Stopped fault) ends = meets_since tables left (Err fault) ends
+  unpaired_since tables left answer Output ends = meets_since tables left answer ends
+
   pub runs_by_text_since : (tables : Tables) (commands : List (Key × Command)) (verdicts : List Verdict) (answer : Result Verdict StoreFault) (ending : Ending)
       → RunsByText tables commands verdicts mid new answer ending → RunsByText tables commands verdicts old new answer ending
   runs_by_text_since tables commands verdicts answer ending ran = record {
@@ -175,4 +186,6 @@ module _ (old mid new : State) (since : DiskFailed mid new → DiskFailed old ne
     after = ran.after;
     turn = ran.turn;
     ends = ends_since ran.after ran.left answer ending ran.ends;
+    paired = ran.paired;
+    unpaired = unpaired_since tables ran.left answer ending ran.unpaired;
   }

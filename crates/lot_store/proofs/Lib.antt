@@ -1,3 +1,4 @@
+pub mod ApartLemmas
 pub mod AdoptLemmas
 pub mod ApplyLemmas
 pub mod ByTextLemmas
@@ -7,6 +8,7 @@ pub mod DamageLemmas
 pub mod ExtentLemmas
 pub mod HandedLemmas
 pub mod KeptLemmas
+pub mod PairedLemmas
 pub mod RefusalLemmas
 pub mod OutputLemmas
 pub mod RunLemmas

@@ -1,21 +1,27 @@
 -- A run of commands, one after another.
-use Rattle.std.proofs.Common.{◌≡◌, ◌≢◌, ◌∙◌, ◌⊎◌, inl, inr, false, ◌<◌, ◌≤◌, ◌+◌, ℕ, IfSome, IsTrue, List, [], ◌∷◌, ◌++◌, Ok, Err, Option, Result, Some, length, map, append_assoc, append-nil, length-append, refl, sym, ap, subst, arith}
+use Rattle.std.proofs.Common.{◌≡◌, ◌≢◌, ◌∙◌, ◌⊎◌, inl, inr, false, ◌<◌, ◌≤◌, ◌+◌, ℕ, IfSome, IsTrue, List, [], ◌∷◌, ◌++◌, Ok, Err, None, Option, Result, Some, length, map, append_assoc, append-nil, length-append, refl, sym, ap, subst, arith}
 use Rattle.std.specs.Prelude.{⊤}
 use Rattle.std.proofs.KnownBytes.{Appends-nil, Appends-trans}
 use Rattle.std.proofs.lemmas.Bool.{cases_Bool, true≢false}
 use Rattle.std.specs.Io.KnownBytes.{Appends}
+use Rattle.std.specs.List.{AllByRecursion}
 use Rattle.std.specs.Result.{result_ok}
 use Rattle.sqlite.proofs.StateLemmas.{survives_then, survives_weaker}
 use Rattle.sqlite.specs.Effect.{Database}
 use Rattle.sqlite.specs.State.{HasCleanDisk, State, Survives}
 use Rattle.sqlite.specs.Tree.{Trees}
+use Rattle.sqlite_keyed.proofs.ListLemmas.{all-append}
 use Rattle.lot_command.specs.declared.command.Command.{Command}
 use Rattle.lot_command.specs.declared.key.Key.{Key}
 use Rattle.lot_book.specs.Facts.{Entry}
 use Rattle.lot_book.specs.Judged.{JudgesAll, JudgesOn}
+use Rattle.lot_book.specs.Touched.{pairs_in}
 use Rattle.lot_book.specs.declared.verdict.Verdict.{Verdict}
 use Rattle.lot_book.specs.declared.verdict.Verdict.TheVariants.{Accepted, Refused, Repeated}
 use Rattle.lot_laws.proofs.JudgedLaws.{judges_more}
+use Rattle.lot_load.specs.Kept.{IsOf}
+use Rattle.lot_load.specs.Paired.{HaveAllPaired, HavePairedFor, whole_pairs}
+use Rattle.lot_load.specs.declared.kept.Kept.{Kept as Known}
 use Rattle.lot_stored.specs.StandFor.{Left, Stands}
 use Rattle.lot_report.proofs.ReplyLemmas.{replies_more}
 use Rattle.lot_report.specs.Printed.{replies, reply}
@@ -26,7 +32,7 @@ use Rattle.lot_rows.specs.Tables.{Has, Tables, layout}
 use Rattle.lot_table.specs.Book.{Holds}
 use Rattle.lot_table.specs.Statement.{DiskFailed}
 use Rattle.lot_store.specs.Apply.{AppliesWith, FailsFor, HasNoRoomFor, MayAdd, StandsWith, condition_after, ready_of}
-use Rattle.lot_store.specs.ByText.{AnswersByText, AnswersFirst, EndsByText, HasTurned, IsByText, RunsByText, TurnAllByText}
+use Rattle.lot_store.specs.ByText.{AnswersByText, AnswersFirst, EndsByText, EndsUnpaired, HasTurned, IsByText, MeetsUnpairedFirst, RunsByText, TurnAllByText}
 use Rattle.lot_store.specs.Run.{AppendsSome, EndsBehind, FlushesLine, HasNoRoomForNext, IsConditionAfter, LeavesAfter, LeavesAtAnswer, LeavesAtFault, LeavesAtVerdict, RepliesTo, RunsSession, StopsWith, Writes, WritesEnd, WritesOut, answer_line, count_refused, fault_line}
 use Rattle.lot_store.specs.Session.{LeavesEntry, LeavesFirst, LeavesJudged, LeavesNext, LeavesStopped, Session}
 use Rattle.lot_store.specs.Turned.{AreLeft, AreTurned, AreTurnedOn, IsLastTurned, IsTurned, RunsTurned, handed, is_judged}
@@ -42,6 +48,7 @@ use Rattle.lot_store.specs.declared.run.RunEnd.{RunEnd}
 use Rattle.lot_store.proofs.ApplyLemmas.{stands_along}
 use Rattle.lot_store.proofs.ByTextLemmas.{leaves_by_text, turn_more}
 use Rattle.lot_store.proofs.DamageLemmas.{of_damage_since}
+use Rattle.lot_store.proofs.PairedLemmas.{all_before, paired_before}
 use Rattle.lot_rows.proofs.StateLemmas.{survives_same}
 
 -- ---- one line
@@ -55,12 +62,12 @@ line_cut (Err Write) old mid new text ending (prefix, (byte, rest, whole), writt
     (is, (prefix, (byte ∷ rest, whole), subst (Appends old new) (append-nil prefix) (Appends-trans old mid new prefix [] written flushed)))
 line_cut (Err Unwritten) old mid new text ending written (is, flushed) = (is, ([], (text, refl), Appends-trans old mid new [] [] written flushed))
 
-module _ (Kept KeptThen : List Entry → Type 0) (key : Key) (command : Command) (number : ℕ) (old new : State) (before written : Option (List ℕ)) (condition : Condition)
-    (answer : Result Verdict StoreFault) (applies : AppliesWith Kept KeptThen key command old new answer) (fails : FailsFor Kept key command old new answer)
+module _ (kept kept_then : Option Known) (key : Key) (command : Command) (number : ℕ) (old new : State) (before written : Option (List ℕ)) (condition : Condition)
+    (answer : Result Verdict StoreFault) (applies : AppliesWith (IsOf kept) (IsOf kept_then) key command old new answer) (fails : FailsFor kept key command old new answer)
     (by_text : IsByText key command old new answer) (after : condition ≡ condition_after answer) (ending : Ending) where
   -- the reply isn't written out
   pub reply_cut : (verdict : Verdict) → answer ≡ Ok verdict → WritesOut before written (reply number verdict) (Err ending)
-      → RepliesTo Kept KeptThen key command number old new before written condition (Err ending)
+      → RepliesTo kept kept_then key command number old new before written condition (Err ending)
   reply_cut verdict is (cut, part) = (
     answer,
     applies,
@@ -73,7 +80,7 @@ module _ (Kept KeptThen : List Entry → Type 0) (key : Key) (command : Command)
 
   -- it stops at a fault
   pub reply_stops : (fault : StoreFault) → answer ≡ Err fault → (answer ≢ Err NeedsReopen) → StopsWith number fault before written ending
-      → RepliesTo Kept KeptThen key command number old new before written condition (Err ending)
+      → RepliesTo kept kept_then key command number old new before written condition (Err ending)
   reply_stops fault is usable (inl (stopped, printed)) = (answer, applies, fails, by_text, usable, after, inl (fault, is, stopped, printed))
   reply_stops fault is usable (inr (cut, part)) =
       (answer, applies, fails, by_text, usable, after, inr (cut, subst (λ (a : Result Verdict StoreFault). AppendsSome before written (answer_line number a)) (sym (is)) part))
@@ -91,13 +98,13 @@ ready_ok Ready is = refl
 ready_ok MustReopen is = absurd cc
 
 -- a book that could be used doesn't stop since it needs reopening
-pub reply_usable : (Kept KeptThen : List Entry → Type 0) (key : Key) (command : Command) (number : ℕ) (old new : State) (before written : Option (List ℕ)) (condition : Condition) (ending : Ending)
-    → RepliesTo Kept KeptThen key command number old new before written condition (Err ending) → ending ≢ Stopped NeedsReopen
-reply_usable Kept KeptThen key command number old new before written condition ending (answer, applies, fails, by_text, usable, after, inl (fault, same, stopped, printed)) is =
+pub reply_usable : (kept kept_then : Option Known) (key : Key) (command : Command) (number : ℕ) (old new : State) (before written : Option (List ℕ)) (condition : Condition) (ending : Ending)
+    → RepliesTo kept kept_then key command number old new before written condition (Err ending) → ending ≢ Stopped NeedsReopen
+reply_usable kept kept_then key command number old new before written condition ending (answer, applies, fails, by_text, usable, after, inl (fault, same, stopped, printed)) is =
     let both : Stopped fault ≡ Stopped NeedsReopen = sym stopped ∙ is in
     let equal : fault ≡ NeedsReopen = cc in
     usable (same ∙ ap Err equal)
-reply_usable Kept KeptThen key command number old new before written condition ending (answer, applies, fails, by_text, usable, after, inr (cut, part)) is =
+reply_usable kept kept_then key command number old new before written condition ending (answer, applies, fails, by_text, usable, after, inr (cut, part)) is =
     let both : Output ≡ Stopped NeedsReopen = sym cut ∙ is in absurd cc
 
 -- ---- one command more
@@ -116,16 +123,16 @@ few_refused (Refused refusal ∷ verdicts) = omega (arith, few_refused verdicts)
 
 -- ---- a run so far
 
--- Commands were judged in the place of the first of those that were handed in, and replied to. `Kept` tells of which books is what
--- is kept, and `Next` what else is known of the book.
-pub record SoFar (Kept Next : List Entry → Type 0) (rounding : Option Rounding) (asked : List (Key × Asked)) (done : List (Key × Command))
+-- Commands were judged in the place of the first of those that were handed in, and replied to. This is kept then, and `Next`
+-- tells what else is known of the book.
+pub record SoFar (kept : Option Known) (Next : List Entry → Type 0) (rounding : Option Rounding) (asked : List (Key × Asked)) (done : List (Key × Command))
     (from refused : ℕ) (old now : State) (before written : Option (List ℕ)) : Type 0 where
   pub verdicts : List Verdict
   pub counted : length done ≡ length verdicts
   pub refusals : refused ≡ count_refused verdicts
   pub lines : Appends before written (replies from verdicts)
   pub judged : HasCleanDisk now → (entries : List Entry) → Stands old entries
-      → (book : List Entry) × AreTurnedOn rounding entries asked done verdicts book × StandsWith Kept now book
+      → (book : List Entry) × AreTurnedOn rounding entries asked done verdicts book × StandsWith (IsOf kept) now book
       × ((trees : Trees) → now.may_leave trees → LeavesJudged old.may_leave verdicts book trees) × Next book
   -- only a database that was shut before is shut now
   pub shut : HasCleanDisk now → now.is_open ≡ false → old.is_open ≡ false
@@ -133,23 +140,27 @@ pub record SoFar (Kept Next : List Entry → Type 0) (rounding : Option Rounding
   -- the tables that they leave of others, whatever these stand for
   pub turned : HasCleanDisk now → (tables : Tables) → Has old tables
       → (after : Tables) × TurnAllByText tables done verdicts after × Has now after
+  -- the pairs that they post to had the same lots in both tables, and so had those of which all is known now
+  pub paired : HasCleanDisk now → (tables : Tables) → Has old tables
+      → AllByRecursion (λ (keyed : Key × Command). HavePairedFor keyed.1 tables) done × HaveAllPaired (whole_pairs kept) tables
 
 -- nothing else is known of it
 abbrev pub Any : List Entry → Type 0
 Any book = ⊤
 
--- what is kept before the first is of any book
-pub so_far_none : (Kept : List Entry → Type 0) → ((entries : List Entry) → Kept entries) → (rounding : Option Rounding) (from : ℕ) (old : State) (before : Option (List ℕ))
-    → SoFar Kept Any rounding [] [] from 0 old old before before
-so_far_none Kept all rounding from old before = record {
+-- before the first nothing is kept
+pub so_far_none : (rounding : Option Rounding) (from : ℕ) (old : State) (before : Option (List ℕ))
+    → SoFar None Any rounding [] [] from 0 old old before before
+so_far_none rounding from old before = record {
   verdicts = [];
   counted = refl;
   refusals = refl;
   lines = Appends-nil _;
-  judged = λ clean entries stands. (entries, refl, (stands, all entries), (λ trees may. inr (refl, may)), tt);
+  judged = λ clean entries stands. (entries, refl, (stands, tt), (λ trees may. inr (refl, may)), tt);
   shut = λ clean is. is;
   crash = survives_same old _;
   turned = λ clean tables has. (tables, refl, has);
+  paired = λ clean tables has. (tt, tt);
 }
 
 -- ---- what was judged in the place of what was handed in
@@ -301,9 +312,9 @@ adds Before key command (Err Device) trees book there none = absurd none
 adds Before key command (Err NeedsReopen) trees book there none = absurd none
 adds Before key command (Err Damaged) trees book there none = absurd none
 
-module _ (Kept KeptThen : List Entry → Type 0) (rounding : Option Rounding) (asked : List (Key × Asked)) (done left : List (Key × Command)) (from refused number : ℕ)
+module _ (kept kept_then : Option Known) (rounding : Option Rounding) (asked : List (Key × Asked)) (done left : List (Key × Command)) (from refused number : ℕ)
     (old now new : State) (before mid written : Option (List ℕ)) (asks : Key × Asked) (next : Key × Command) (Next : List Entry → Type 0)
-    (so : SoFar Kept Next rounding asked done from refused old now before mid) (numbered : number ≡ from + length done) where
+    (so : SoFar kept Next rounding asked done from refused old now before mid) (numbered : number ≡ from + length done) where
   judged_so : (entries book : List Entry) → AreTurnedOn rounding entries asked done so.verdicts book → JudgesAll entries done so.verdicts book
   judged_so entries book turns = turns_judge rounding entries asked done so.verdicts book turns
 
@@ -311,15 +322,15 @@ module _ (Kept KeptThen : List Entry → Type 0) (rounding : Option Rounding) (a
   count = omega (arith, numbered, so.counted)
 
   -- a crash may leave the first commands, with the next one too
-  first : (answer : Result Verdict StoreFault) → AppliesWith Kept KeptThen next.0 next.1 now new answer
+  first : (answer : Result Verdict StoreFault) → AppliesWith (IsOf kept) (IsOf kept_then) next.0 next.1 now new answer
       → Survives old new (λ trees. (entries : List Entry) → Stands old entries → LeavesFirst entries (done ++ next ∷ []) trees)
   first answer applies =
-      survives_then old now new (λ trees. (entries : List Entry) → Stands old entries → LeavesFirst entries done trees) (MayAdd (StandsWith Kept now) next.0 next.1 answer)
+      survives_then old now new (λ trees. (entries : List Entry) → Stands old entries → LeavesFirst entries done trees) (MayAdd (StandsWith (IsOf kept) now) next.0 next.1 answer)
       (λ trees. (entries : List Entry) → Stands old entries → LeavesFirst entries (done ++ next ∷ []) trees)
       (λ clean db leaves entries stands. first_more entries done (next ∷ []) db (leaves entries stands))
       (λ clean db add entries stands.
       let was = so.judged (omega (arith, clean, applies.crash.clean)) entries stands in
-      let more = adds (StandsWith Kept now) next.0 next.1 answer db was.0 was.2 add in (
+      let more = adds (StandsWith (IsOf kept) now) next.0 next.1 answer db was.0 was.2 add in (
         so.verdicts ++ Accepted ∷ [],
         more.0,
         [],
@@ -332,7 +343,7 @@ module _ (Kept KeptThen : List Entry → Type 0) (rounding : Option Rounding) (a
       )) so.crash applies.crash
 
   -- the same of all commands
-  first_all : (answer : Result Verdict StoreFault) → AppliesWith Kept KeptThen next.0 next.1 now new answer
+  first_all : (answer : Result Verdict StoreFault) → AppliesWith (IsOf kept) (IsOf kept_then) next.0 next.1 now new answer
       → Survives old new (λ trees. (entries : List Entry) → Stands old entries → LeavesFirst entries (done ++ next ∷ left) trees)
   first_all answer applies =
       survives_weaker old new (λ trees. (entries : List Entry) → Stands old entries → LeavesFirst entries (done ++ next ∷ []) trees)
@@ -341,19 +352,19 @@ module _ (Kept KeptThen : List Entry → Type 0) (rounding : Option Rounding) (a
       (first_more entries (done ++ next ∷ []) left db (leaves entries stands))) (first answer applies)
 
   -- the next command is judged, and the book after it is what stands, and what a crash leaves
-  judges_next : (verdict : Verdict) → AppliesWith Kept KeptThen next.0 next.1 now new (Ok verdict)
-      → (IsTrue new.is_open → (trees : Trees) → new.may_leave trees → trees ≡ new.committed.trees) → HasCleanDisk new → (book : List Entry) → StandsWith Kept now book
-      → (after : List Entry) × JudgesOn book next.0 next.1 verdict after × StandsWith KeptThen new after × ((trees : Trees) → new.may_leave trees → Left trees after)
+  judges_next : (verdict : Verdict) → AppliesWith (IsOf kept) (IsOf kept_then) next.0 next.1 now new (Ok verdict)
+      → (IsTrue new.is_open → (trees : Trees) → new.may_leave trees → trees ≡ new.committed.trees) → HasCleanDisk new → (book : List Entry) → StandsWith (IsOf kept) now book
+      → (after : List Entry) × JudgesOn book next.0 next.1 verdict after × StandsWith (IsOf kept_then) new after × ((trees : Trees) → new.may_leave trees → Left trees after)
   judges_next verdict applies safe clean book there =
       let one = applies.judged clean book there in
       let set = applies.settled clean in
       (one.0, one.1, one.2, λ trees may. left_of new one.0 trees one.2.0 set.1 (safe set.0 trees may))
 
-  pub so_far_next : (verdict : Verdict) (condition : Condition) → RepliesTo Kept KeptThen next.0 next.1 number now new mid written condition (Ok verdict)
+  pub so_far_next : (verdict : Verdict) (condition : Condition) → RepliesTo kept kept_then next.0 next.1 number now new mid written condition (Ok verdict)
       → (IsTrue new.is_open → (trees : Trees) → new.may_leave trees → trees ≡ new.committed.trees)
       → ((book : List Entry) → Next book → IsTurned rounding book asks next)
-      → SoFar KeptThen Any rounding (asked ++ asks ∷ []) (done ++ next ∷ []) from (refused + count_refused (verdict ∷ [])) old new before written
-  so_far_next verdict condition (applies, printed, by_text) safe known = record {
+      → SoFar kept_then Any rounding (asked ++ asks ∷ []) (done ++ next ∷ []) from (refused + count_refused (verdict ∷ [])) old new before written
+  so_far_next verdict condition (applies, printed, by_text, finds, keeps) safe known = record {
     verdicts = so.verdicts ++ verdict ∷ [];
     counted = length-append done (next ∷ []) ∙ ap (λ n. n + 1) so.counted ∙ sym (length-append so.verdicts (verdict ∷ []));
     refusals = ap (λ n. n + count_refused (verdict ∷ [])) so.refusals ∙ sym (refused_more so.verdicts verdict);
@@ -377,6 +388,15 @@ module _ (Kept KeptThen : List Entry → Type 0) (rounding : Option Rounding) (a
           turn_more tables done so.verdicts was.0 one.0 next verdict was.1 one.1,
           one.2,
         );
+    paired = λ clean tables has.
+        let early : HasCleanDisk now = omega (arith, clean, applies.crash.clean) in
+        let was = so.paired early tables has in
+        let it = so.turned early tables has in
+        let back = paired_before tables done so.verdicts it.0 it.1 was.0 in (
+          all-append (λ (keyed : Key × Command). HavePairedFor keyed.1 tables) done (next ∷ []) was.0
+              (all_before kept tables it.0 (pairs_in next.1) back was.1 (finds clean it.0 it.2), tt),
+          all_before kept tables it.0 (whole_pairs kept_then) back was.1 (keeps clean it.0 it.2),
+        );
   }
 
   -- ---- the run ends at the command
@@ -386,27 +406,27 @@ module _ (Kept KeptThen : List Entry → Type 0) (rounding : Option Rounding) (a
   session entries book turns = record { done = done; split = refl; judged = judged_so entries book turns }
 
   -- where nothing is added
-  kept_only : (answer : Result Verdict StoreFault) (applies : AppliesWith Kept KeptThen next.0 next.1 now new answer) → ((trees : Trees) → ¬ MayAdd (StandsWith Kept now) next.0 next.1 answer trees) → HasCleanDisk new
+  kept_only : (answer : Result Verdict StoreFault) (applies : AppliesWith (IsOf kept) (IsOf kept_then) next.0 next.1 now new answer) → ((trees : Trees) → ¬ MayAdd (StandsWith (IsOf kept) now) next.0 next.1 answer trees) → HasCleanDisk new
       → (could : Trees → Type 0) (book : List Entry) → ((trees : Trees) → now.may_leave trees → LeavesJudged could so.verdicts book trees)
       → (trees : Trees) → new.may_leave trees → LeavesJudged could so.verdicts book trees
   kept_only answer applies none clean could book was trees may = elim (applies.crash.crash clean trees may) [ inl earlier ↦ was trees earlier | inr add ↦ absurd (none trees add) ]
 
-  leaves_next : (answer : Result Verdict StoreFault) (applies : AppliesWith Kept KeptThen next.0 next.1 now new answer) → HasCleanDisk new → (could : Trees → Type 0) (book : List Entry) → StandsWith Kept now book
+  leaves_next : (answer : Result Verdict StoreFault) (applies : AppliesWith (IsOf kept) (IsOf kept_then) next.0 next.1 now new answer) → HasCleanDisk new → (could : Trees → Type 0) (book : List Entry) → StandsWith (IsOf kept) now book
       → ((trees : Trees) → now.may_leave trees → LeavesJudged could so.verdicts book trees)
       → (trees : Trees) → new.may_leave trees → LeavesNext could so.verdicts book (next ∷ left) trees
   leaves_next answer applies clean could book there was trees may = elim (applies.crash.crash clean trees may) [
     | inl earlier ↦ inl (was trees earlier)
-    | inr add ↦ inr (adds (StandsWith Kept now) next.0 next.1 answer trees book there add)
+    | inr add ↦ inr (adds (StandsWith (IsOf kept) now) next.0 next.1 answer trees book there add)
   ]
 
   -- the disk failed during the run, or the database was shut before it
-  failed_since : (answer : Result Verdict StoreFault) → AppliesWith Kept KeptThen next.0 next.1 now new answer → HasCleanDisk new → DiskFailed now new → DiskFailed old new
+  failed_since : (answer : Result Verdict StoreFault) → AppliesWith (IsOf kept) (IsOf kept_then) next.0 next.1 now new answer → HasCleanDisk new → DiskFailed now new → DiskFailed old new
   failed_since answer applies clean (inl more) = inl (omega (arith, so.crash.counts, more))
   failed_since answer applies clean (inr closed) = inr (so.shut (omega (arith, clean, applies.crash.clean)) closed)
 
   -- the disk failed, or there is no room for the command
-  refused_for : (book : List Entry) → StandsWith Kept now book → AppliesWith Kept KeptThen next.0 next.1 now new (Err Device)
-      → FailsFor Kept next.0 next.1 now new (Err Device) → HasCleanDisk new → DiskFailed old new ⊎ HasNoRoomForNext book (next ∷ left) new
+  refused_for : (book : List Entry) → StandsWith (IsOf kept) now book → AppliesWith (IsOf kept) (IsOf kept_then) next.0 next.1 now new (Err Device)
+      → FailsFor kept next.0 next.1 now new (Err Device) → HasCleanDisk new → DiskFailed old new ⊎ HasNoRoomForNext book (next ∷ left) new
   refused_for book there applies fails clean = elim (fails.device clean refl book there.0 there.1) [
     | inl failed ↦ failed_so failed
     | inr room ↦ elim (cases_Bool now.is_open) [
@@ -427,9 +447,9 @@ module _ (Kept KeptThen : List Entry → Type 0) (rounding : Option Rounding) (a
       failed_so failed = inl (failed_since (Err Device) applies clean failed)
 
   -- what stands after a fault of the command
-  at_fault : (fault : StoreFault) → AppliesWith Kept KeptThen next.0 next.1 now new (Err fault)
-      → FailsFor Kept next.0 next.1 now new (Err fault) → fault ≢ NeedsReopen → HasCleanDisk new
-      → (book : List Entry) → StandsWith Kept now book → ((trees : Trees) → now.may_leave trees → LeavesJudged old.may_leave so.verdicts book trees)
+  at_fault : (fault : StoreFault) → AppliesWith (IsOf kept) (IsOf kept_then) next.0 next.1 now new (Err fault)
+      → FailsFor kept next.0 next.1 now new (Err fault) → fault ≢ NeedsReopen → HasCleanDisk new
+      → (book : List Entry) → StandsWith (IsOf kept) now book → ((trees : Trees) → now.may_leave trees → LeavesJudged old.may_leave so.verdicts book trees)
       → LeavesAtFault fault so.verdicts book (next ∷ left) old new
   at_fault Device applies fails usable clean book there was = (
     λ opened. stands_along now new book ((applies.rest clean).1 opened) there.0,
@@ -449,14 +469,14 @@ module _ (Kept KeptThen : List Entry → Type 0) (rounding : Option Rounding) (a
   at_fault Damaged applies fails usable clean book there was = applies.damaged clean refl book there
 
   -- what stands after a verdict on it, whose reply isn't written out
-  at_verdict : (verdict : Verdict) → AppliesWith Kept KeptThen next.0 next.1 now new (Ok verdict)
-      → (IsTrue new.is_open → (trees : Trees) → new.may_leave trees → trees ≡ new.committed.trees) → HasCleanDisk new → (book : List Entry) → StandsWith Kept now book
+  at_verdict : (verdict : Verdict) → AppliesWith (IsOf kept) (IsOf kept_then) next.0 next.1 now new (Ok verdict)
+      → (IsTrue new.is_open → (trees : Trees) → new.may_leave trees → trees ≡ new.committed.trees) → HasCleanDisk new → (book : List Entry) → StandsWith (IsOf kept) now book
       → LeavesAtVerdict verdict so.verdicts book (next ∷ left) old new
   at_verdict verdict applies safe clean book there =
       let one = judges_next verdict applies safe clean book there in (one.0, one.1, one.2.0, λ trees may. inl (one.3 trees may))
 
-  at_answer : (answer : Result Verdict StoreFault) → AppliesWith Kept KeptThen next.0 next.1 now new answer → FailsFor Kept next.0 next.1 now new answer → answer ≢ Err NeedsReopen
-      → (IsTrue new.is_open → (trees : Trees) → new.may_leave trees → trees ≡ new.committed.trees) → HasCleanDisk new → (book : List Entry) → StandsWith Kept now book
+  at_answer : (answer : Result Verdict StoreFault) → AppliesWith (IsOf kept) (IsOf kept_then) next.0 next.1 now new answer → FailsFor kept next.0 next.1 now new answer → answer ≢ Err NeedsReopen
+      → (IsTrue new.is_open → (trees : Trees) → new.may_leave trees → trees ≡ new.committed.trees) → HasCleanDisk new → (book : List Entry) → StandsWith (IsOf kept) now book
       → ((trees : Trees) → now.may_leave trees → LeavesJudged old.may_leave so.verdicts book trees)
       → LeavesAtAnswer answer so.verdicts book (next ∷ left) old new
   at_answer (Ok verdict) applies fails usable safe clean book there was = at_verdict verdict applies safe clean book there
@@ -466,7 +486,7 @@ module _ (Kept KeptThen : List Entry → Type 0) (rounding : Option Rounding) (a
   here = omega (arith, length-append done (next ∷ left), so.counted)
 
   -- the answer to the command on the tables before it
-  answers_next : (answer : Result Verdict StoreFault) → AppliesWith Kept KeptThen next.0 next.1 now new answer → FailsFor Kept next.0 next.1 now new answer
+  answers_next : (answer : Result Verdict StoreFault) → AppliesWith (IsOf kept) (IsOf kept_then) next.0 next.1 now new answer → FailsFor kept next.0 next.1 now new answer
       → IsByText next.0 next.1 now new answer → HasCleanDisk new → (tables : Tables) → Has now tables
       → AnswersByText tables next.0 next.1 old new answer
   answers_next answer applies fails by_text clean tables has = record {
@@ -474,12 +494,24 @@ module _ (Kept KeptThen : List Entry → Type 0) (rounding : Option Rounding) (a
     leaves = leaves_by_text tables next.0 next.1 now new (result_ok answer) (by_text clean tables has) (applies.rest clean) has;
   }
 
+  -- so is the answer where some pair that it posts to wasn't paired before the run
+  meets_next : (answer : Result Verdict StoreFault) → AppliesWith (IsOf kept) (IsOf kept_then) next.0 next.1 now new answer → FailsFor kept next.0 next.1 now new answer
+      → HasCleanDisk new → (tables : Tables) → Has old tables → MeetsUnpairedFirst tables (next ∷ left) old new answer
+  meets_next answer applies fails clean tables has unpaired =
+      let early : HasCleanDisk now = omega (arith, clean, applies.crash.clean) in
+      let was = so.paired early tables has in
+      let it = so.turned early tables has in
+      let back = paired_before tables done so.verdicts it.0 it.1 was.0 in
+      of_damage_since old now new (failed_since answer applies clean) answer
+      (fails.unpaired clean it.0 it.2 (λ found. unpaired (all_before kept tables it.0 (pairs_in next.1) back was.1 found)))
+
   -- the run ends at it
-  texts_end : (answer : Result Verdict StoreFault) (ending : Ending) → AppliesWith Kept KeptThen next.0 next.1 now new answer → FailsFor Kept next.0 next.1 now new answer
+  texts_end : (answer : Result Verdict StoreFault) (ending : Ending) → AppliesWith (IsOf kept) (IsOf kept_then) next.0 next.1 now new answer → FailsFor kept next.0 next.1 now new answer
       → IsByText next.0 next.1 now new answer
       → ((tables : Tables) → AnswersByText tables next.0 next.1 old new answer → EndsByText tables (next ∷ left) old new answer ending)
+      → ((tables : Tables) → MeetsUnpairedFirst tables (next ∷ left) old new answer → EndsUnpaired tables (next ∷ left) old new answer ending)
       → HasCleanDisk new → (tables : Tables) → Has old tables → RunsByText tables (done ++ next ∷ left) so.verdicts old new answer ending
-  texts_end answer ending applies fails by_text ends clean tables has =
+  texts_end answer ending applies fails by_text ends meets clean tables has =
       let was = so.turned (omega (arith, clean, applies.crash.clean)) tables has in
       record {
         done = done;
@@ -488,12 +520,14 @@ module _ (Kept KeptThen : List Entry → Type 0) (rounding : Option Rounding) (a
         after = was.0;
         turn = was.1;
         ends = ends was.0 (answers_next answer applies fails by_text clean was.0 was.2);
+        paired = (so.paired (omega (arith, clean, applies.crash.clean)) tables has).0;
+        unpaired = meets tables (meets_next answer applies fails clean tables has);
       }
 
   -- what was written up to the end, and what stands then
-  ends_so : (answer : Result Verdict StoreFault) (ending : Ending) → LeavesWhatStands old → AppliesWith Kept KeptThen next.0 next.1 now new answer → WritesEnd from so.verdicts answer ending before written
+  ends_so : (answer : Result Verdict StoreFault) (ending : Ending) → LeavesWhatStands old → AppliesWith (IsOf kept) (IsOf kept_then) next.0 next.1 now new answer → WritesEnd from so.verdicts answer ending before written
       → EndsBehind (length (done ++ next ∷ left)) (length so.verdicts) answer ending
-      → (HasCleanDisk new → (book : List Entry) → StandsWith Kept now book → ((trees : Trees) → now.may_leave trees → LeavesJudged old.may_leave so.verdicts book trees)
+      → (HasCleanDisk new → (book : List Entry) → StandsWith (IsOf kept) now book → ((trees : Trees) → now.may_leave trees → LeavesJudged old.may_leave so.verdicts book trees)
       → LeavesAfter so.verdicts book (next ∷ left) old new answer ending)
       → (HasCleanDisk new → (tables : Tables) → Has old tables → RunsByText tables (done ++ next ∷ left) so.verdicts old new answer ending)
       → RunsSession (done ++ next ∷ left) from old new before written answer (record { replied = length done; refused = refused; ending = ending })
@@ -505,7 +539,7 @@ module _ (Kept KeptThen : List Entry → Type 0) (rounding : Option Rounding) (a
       (was.0, next ∷ left, session entries was.0 was.1, leaves clean was.0 was.2 was.3)) (first_all answer applies) texts
 
   -- what is judged in the place of what was handed in, with the command at which the run ends
-  turned_so : (answer : Result Verdict StoreFault) (rest : List (Key × Asked)) → left ≡ map handed rest → AppliesWith Kept KeptThen next.0 next.1 now new answer
+  turned_so : (answer : Result Verdict StoreFault) (rest : List (Key × Asked)) → left ≡ map handed rest → AppliesWith (IsOf kept) (IsOf kept_then) next.0 next.1 now new answer
       → ((book : List Entry) → Next book → IsLastTurned (is_judged answer) rounding book asks next)
       → HasCleanDisk new → (entries : List Entry) → Stands old entries → AreTurned rounding entries (asked ++ asks ∷ rest) (done ++ next ∷ left) (length done) answer
   turned_so answer rest are applies known clean entries stands =
@@ -525,7 +559,7 @@ module _ (Kept KeptThen : List Entry → Type 0) (rounding : Option Rounding) (a
       }
 
   pub run_ends : (ending : Ending) (was condition : Condition) (rest : List (Key × Asked)) → left ≡ map handed rest
-      → (replies : RepliesTo Kept KeptThen next.0 next.1 number now new mid written condition (Err ending))
+      → (replies : RepliesTo kept kept_then next.0 next.1 number now new mid written condition (Err ending))
       → ((book : List Entry) → Next book → IsLastTurned (is_judged replies.0) rounding book asks next)
       → (IsTrue new.is_open → (trees : Trees) → new.may_leave trees → trees ≡ new.committed.trees) → LeavesWhatStands old
       → RunsTurned rounding (asked ++ asks ∷ rest) from old new before written was condition (record { replied = length done; refused = refused; ending = ending })
@@ -535,8 +569,9 @@ module _ (Kept KeptThen : List Entry → Type 0) (rounding : Option Rounding) (a
       answer,
       ends_so answer (Stopped fault) stands_so applies
           (subst (λ n. Appends before written (replies from so.verdicts ++ fault_line n fault)) count (Appends-trans before mid written _ _ so.lines printed)) (inl here)
-          (at_fault fault (subst (AppliesWith Kept KeptThen next.0 next.1 now new) is applies) (subst (FailsFor Kept next.0 next.1 now new) is fails) (λ spent. usable (is ∙ ap Err spent)))
-          (texts_end answer (Stopped fault) applies fails by_text (λ tables answers. subst (AnswersByText tables next.0 next.1 old new) is answers)),
+          (at_fault fault (subst (AppliesWith (IsOf kept) (IsOf kept_then) next.0 next.1 now new) is applies) (subst (FailsFor kept next.0 next.1 now new) is fails) (λ spent. usable (is ∙ ap Err spent)))
+          (texts_end answer (Stopped fault) applies fails by_text (λ tables answers. subst (AnswersByText tables next.0 next.1 old new) is answers)
+          (λ tables meets. subst (MeetsUnpairedFirst tables (next ∷ left) old new) is meets)),
       (λ ready. usable),
       after ∙ ap condition_after is,
     ),
@@ -548,7 +583,7 @@ module _ (Kept KeptThen : List Entry → Type 0) (rounding : Option Rounding) (a
       answer,
       ends_so answer Output stands_so applies
           (part.0, subst (λ n. IsPrefixOf part.0 (answer_line n answer)) count part.1, Appends-trans before mid written _ _ so.lines part.2) (inl here)
-          (at_answer answer applies fails usable safe) (texts_end answer Output applies fails by_text (λ tables answers. answers)),
+          (at_answer answer applies fails usable safe) (texts_end answer Output applies fails by_text (λ tables answers. answers) (λ tables meets. meets)),
       (λ ready. usable),
       after,
     ),
@@ -557,11 +592,11 @@ module _ (Kept KeptThen : List Entry → Type 0) (rounding : Option Rounding) (a
 
 -- ---- the run ends behind all commands, or before any
 
-pub run_completes : (Kept : List Entry → Type 0) (rounding : Option Rounding) (asked : List (Key × Asked)) (done : List (Key × Command)) (from refused : ℕ) (old new : State)
+pub run_completes : (kept : Option Known) (rounding : Option Rounding) (asked : List (Key × Asked)) (done : List (Key × Command)) (from refused : ℕ) (old new : State)
     (before written : Option (List ℕ)) (was condition : Condition)
-    → SoFar Kept Any rounding asked done from refused old new before written → condition ≡ Ready → LeavesWhatStands old
+    → SoFar kept Any rounding asked done from refused old new before written → condition ≡ Ready → LeavesWhatStands old
     → RunsTurned rounding asked from old new before written was condition (record { replied = length done; refused = refused; ending = Complete })
-run_completes Kept rounding asked done from refused old new before written was condition so ready stands_so = (
+run_completes kept rounding asked done from refused old new before written was condition so ready stands_so = (
   done,
   (
     Ok Accepted,
@@ -576,7 +611,7 @@ run_completes Kept rounding asked done from refused old new before written was c
         )) so.crash
         (λ clean tables has.
         let was = so.turned clean tables has in
-        record { done = done; left = []; split = sym (append-nil done); after = was.0; turn = was.1; ends = (refl, was.2) }),
+        record { done = done; left = []; split = sym (append-nil done); after = was.0; turn = was.1; ends = (refl, was.2); paired = (so.paired clean tables has).0; unpaired = tt }),
     (λ usable is. absurd cc),
     ready,
   ),
@@ -607,7 +642,7 @@ run_needs_reopening rounding asked from old before written ending condition stop
     run_of (map handed asked) from old old before written (Err NeedsReopen) (record { replied = 0; refused = 0; ending = ending }) [] stands_so
         (record { replied = refl; refused = refl; lines = lines stops_so }) (place stops_so)
         (λ clean entries stands. (entries, map handed asked, record { done = []; split = refl; judged = refl }, leaves stops_so entries stands)) (survives_same old _)
-        (λ clean tables has. record { done = []; left = map handed asked; split = refl; after = tables; turn = refl; ends = texts stops_so tables has (map handed asked) }),
+        (λ clean tables has. record { done = []; left = map handed asked; split = refl; after = tables; turn = refl; ends = texts stops_so tables has (map handed asked); paired = tt; unpaired = meets stops_so tables (map handed asked) }),
     (λ ready. let both = sym ready ∙ spent in absurd cc),
     after stops_so,
   ),
@@ -653,6 +688,15 @@ run_needs_reopening rounding asked from old before written ending condition stop
         → EndsByText tables cs old old (Err NeedsReopen) ending
     texts (inl (is, printed)) tables has cs = rw is (spent_answer tables has cs)
     texts (inr (is, part)) tables has cs = rw is (spent_answer tables has cs)
+
+    spent_meets : (tables : Tables) (cs : List (Key × Command)) → MeetsUnpairedFirst tables cs old old (Err NeedsReopen)
+    spent_meets tables [] = tt
+    spent_meets tables (next ∷ left) = λ unpaired. tt
+
+    meets : StopsWith from NeedsReopen before written ending → (tables : Tables) (cs : List (Key × Command))
+        → EndsUnpaired tables cs old old (Err NeedsReopen) ending
+    meets (inl (is, printed)) tables cs = rw is (spent_meets tables cs)
+    meets (inr (is, part)) tables cs = rw is (spent_meets tables cs)
 
     after : StopsWith from NeedsReopen before written ending → IsConditionAfter (Err NeedsReopen) ending condition
     after (inl (is, printed)) = rw is spent

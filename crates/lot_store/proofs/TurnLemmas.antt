@@ -1,10 +1,11 @@
 -- What is judged in the place of a command that was handed in: on what is known of a book, and so on the book; and a run of such.
 use Rattle.std.proofs.Common.{◌≡◌, ◌≢◌, ◌∙◌, ◌+◌, ◌<◌, inl, inr, if◌then◌else◌, ℕ, ℤ, Bool, length, take, drop, get_or, add-one, append_assoc, length-append, take-append-drop, true, false, IsTrue, List, [], ◌∷◌, ◌++◌, Option, None, Some, Result, Ok, Err, map, refl, sym, ap, subst, arith}
+use Rattle.std.specs.Prelude.{IfOk}
 use Rattle.std.proofs.Math.Seq.{take-suc}
 use Rattle.std.proofs.lemmas.Bool.{true≢false}
 use Rattle.std.specs.Option.{unwrap_or}
 use Rattle.sqlite.proofs.StateLemmas.{survives_then}
-use Rattle.sqlite.specs.State.{HasCleanDisk, State}
+use Rattle.sqlite.specs.State.{HasCleanDisk, IsUnchanged, State}
 use Rattle.sqlite.specs.Tree.{Trees}
 use Rattle.lot_base.specs.Text.{same_text}
 use Rattle.lot_book.specs.declared.verdict.Verdict.{Verdict}
@@ -35,7 +36,8 @@ use Rattle.lot_rounding.specs.declared.ratio.Change.{Change}
 use Rattle.lot_rounding.specs.declared.rounding.Rounding.{Rounding}
 use Rattle.lot_split.specs.Held.{IsSplitOn}
 use Rattle.lot_split.specs.declared.transaction.Split.{Split}
-use Rattle.lot_rows.proofs.StateLemmas.{survives_same}
+use Rattle.lot_load.specs.Paired.{KeepsPaired, whole_pairs}
+use Rattle.lot_rows.proofs.StateLemmas.{has_still, survives_same}
 use Rattle.lot_stored.specs.StandFor.{Stands}
 use Rattle.lot_view.specs.View.{known, known_with_openings}
 use Rattle.lot_view.specs.declared.view.View.{View}
@@ -58,6 +60,7 @@ use Rattle.lot_store.specs.declared.turn.Turn.{Turn}
 use Rattle.lot_store.proofs.ApplyLemmas.{stands_along}
 use Rattle.lot_store.proofs.ByTextLemmas.{has_along}
 use Rattle.lot_store.proofs.CommitLemmas.{leaves_none, of_damaged, of_device}
+use Rattle.lot_store.proofs.PairedLemmas.{all_before, paired_before, whole_then}
 use Rattle.lot_store.proofs.RunLemmas.{Any, SoFar, LeavesWhatStands, run_ends, so_far_next}
 
 -- what was handed in is what is left where a fault comes as its turn is worked out
@@ -338,14 +341,30 @@ module _ (kept : Option Kept) (rounding : Rounding) (key : Key) (asked : Asked) 
       none_reopens table.TheVariants.Damaged is = cc
       none_reopens table.TheVariants.Memory is = cc
 
+-- ---- pairs of which all is known
+
+-- two looks one after another find them paired
+pub keeps_both : (kept looked found : Option Kept) (old mid new : State) → (HasCleanDisk new → IsUnchanged old mid) → (HasCleanDisk new → HasCleanDisk mid)
+    → KeepsPaired kept looked old mid → KeepsPaired looked found mid new → KeepsPaired kept found old new
+keeps_both kept looked found old mid new same before first second clean tables has =
+    whole_then kept looked tables (whole_pairs found) (first (before clean) tables has) (second clean tables (has_still old mid tables (same clean) has))
+
+-- the last of several, whose answer is passed on
+pub keeps_last : (kept looked : Option Kept) (old mid new : State) (result : Result (Kept × Turn) table.Fault) → (HasCleanDisk new → IsUnchanged old mid)
+    → (HasCleanDisk new → HasCleanDisk mid) → KeepsPaired kept looked old mid
+    → IfOk result (λ (found : Kept × Turn). KeepsPaired looked (Some found.0) mid new)
+    → IfOk result (λ (found : Kept × Turn). KeepsPaired kept (Some found.0) old new)
+keeps_last kept looked old mid new (Ok found) same before first second = keeps_both kept looked (Some found.0) old mid new same before first second
+keeps_last kept looked old mid new (Err fault) same before first second = tt
+
 -- ---- in a run
 
-module _ (Kept KeptThen : List Entry → Type 0) (rounding : Option Rounding) (asked : List (Key × Asked)) (done : List (Key × Command)) (from refused : ℕ)
+module _ (kept kept_then : Option Kept) (rounding : Option Rounding) (asked : List (Key × Asked)) (done : List (Key × Command)) (from refused : ℕ)
     (old now new : State) (before mid : Option (List ℕ)) (keyed : Key × Asked)
-    (so : SoFar Kept Any rounding asked done from refused old now before mid) where
+    (so : SoFar kept Any rounding asked done from refused old now before mid) where
   -- what is judged is known
-  pub so_far_turn : (turn : Turn) → TurnsTo Kept KeptThen rounding keyed now new (Ok turn) → SoFar KeptThen (λ book. IsTurned rounding book keyed (keyed.0, judged_of turn keyed.1)) rounding asked done from refused old new before mid
-  so_far_turn turn turned = record {
+  pub so_far_turn : (turn : Turn) → TurnsTo (IsOf kept) (IsOf kept_then) rounding keyed now new (Ok turn) → KeepsPaired kept kept_then now new → SoFar kept_then (λ book. IsTurned rounding book keyed (keyed.0, judged_of turn keyed.1)) rounding asked done from refused old new before mid
+  so_far_turn turn turned keeps = record {
     verdicts = so.verdicts;
     counted = so.counted;
     refusals = so.refusals;
@@ -367,24 +386,32 @@ module _ (Kept KeptThen : List Entry → Type 0) (rounding : Option Rounding) (a
     turned = λ clean tables has.
         let was = so.turned (omega (arith, clean, turned.crash.clean)) tables has in
         (was.0, was.1, has_along now new was.0 (turned.same clean).0 was.2);
+    paired = λ clean tables has.
+        let early : HasCleanDisk now = omega (arith, clean, turned.crash.clean) in
+        let was = so.paired early tables has in
+        let it = so.turned early tables has in (
+          was.0,
+          all_before kept tables it.0 (whole_pairs kept_then) (paired_before tables done so.verdicts it.0 it.1 was.0) was.1 (keeps clean it.0 it.2),
+        );
   }
 
-  module _ (fault : StoreFault) (turned : TurnsTo Kept KeptThen rounding keyed now new (Err fault)) where
+  module _ (fault : StoreFault) (turned : TurnsTo (IsOf kept) (IsOf kept_then) rounding keyed now new (Err fault)) where
     -- a fault as it is worked out is one of the command that was handed in
-    applies_not : AppliesWith Kept KeptThen keyed.0 keyed.1.command now new (Err fault)
+    applies_not : AppliesWith (IsOf kept) (IsOf kept_then) keyed.0 keyed.1.command now new (Err fault)
     applies_not = record {
       judged = λ clean entries there. tt;
       settled = λ clean. tt;
       rest = turned.rest;
       damaged = λ clean is entries there. let same : fault ≡ Damaged = cc in turned.damaged clean (ap Err same) entries there;
-      crash = leaves_none now new (MayAdd (StandsWith Kept now) keyed.0 keyed.1.command (Err fault)) turned.crash;
+      crash = leaves_none now new (MayAdd (StandsWith (IsOf kept) now) keyed.0 keyed.1.command (Err fault)) turned.crash;
     }
 
-    fails_so : FailsFor Kept keyed.0 keyed.1.command now new (Err fault)
+    fails_so : FailsFor kept keyed.0 keyed.1.command now new (Err fault)
     fails_so = record {
       device = λ clean is entries stands kept. let same : fault ≡ Device = cc in inl (turned.device clean (ap Err same));
       in_doubt = λ clean is. let same : fault ≡ InDoubt = cc in absurd (turned.sure (ap Err same));
       damage = λ clean tables has damaged. of_damage clean fault refl;
+      unpaired = λ clean tables has unpaired. of_damage clean fault refl;
     }
       where
         of_damage : HasCleanDisk new → (f : StoreFault) → f ≡ fault → IsOfDamage now new (Err f)
@@ -405,7 +432,7 @@ module _ (Kept KeptThen : List Entry → Type 0) (rounding : Option Rounding) (a
         → (IsTrue new.is_open → (trees : Trees) → new.may_leave trees → trees ≡ new.committed.trees) → LeavesWhatStands old
         → RunsTurned rounding (asked ++ keyed ∷ rest) from old new before written was condition (record { replied = length done; refused = refused; ending = ending })
     turn_ends number written ending was condition rest stops after numbered safe stands_so =
-        run_ends Kept KeptThen rounding asked done (map handed rest) from refused number old now new before mid written keyed (handed keyed) Any so numbered
+        run_ends kept kept_then rounding asked done (map handed rest) from refused number old now new before mid written keyed (handed keyed) Any so numbered
         ending was condition rest refl (
           Err fault,
           applies_not,
@@ -441,8 +468,8 @@ last_turned true rounding book asked turned is = is
 -- The first commands of a list, so many, were judged and replied to. Now it is the turn of the next one.
 module _ (commands : List (Key × Asked)) (index from refused : ℕ) (rounding : Option Rounding) (done : List (Key × Command)) (counted : index ≡ length done)
     (next other : Key × Asked) (is_next : next ≡ get_or commands index other) (within : index < length commands)
-    (Kept KeptMid : List Entry → Type 0) (old now mid : State) (before written : Option (List ℕ))
-    (so : SoFar Kept Any rounding (take index commands) done from refused old now before written)
+    (kept kept_mid : Option Kept) (old now mid : State) (before written : Option (List ℕ))
+    (so : SoFar kept Any rounding (take index commands) done from refused old now before written)
     (safe : IsTrue mid.is_open → (trees : Trees) → mid.may_leave trees → trees ≡ mid.committed.trees) where
   numbered : from + index ≡ from + length done
   numbered = ap (λ n. from + n) counted
@@ -457,51 +484,51 @@ module _ (commands : List (Key × Asked)) (index from refused : ℕ) (rounding :
       (all_of commands index next other is_next within) runs)
 
   -- the run ends as its turn is worked out
-  pub fault_ends : (fault : StoreFault) → TurnsTo Kept KeptMid rounding next now mid (Err fault) → (later : Option (List ℕ)) (ending : Ending) (was condition : Condition)
+  pub fault_ends : (fault : StoreFault) → TurnsTo (IsOf kept) (IsOf kept_mid) rounding next now mid (Err fault) → (later : Option (List ℕ)) (ending : Ending) (was condition : Condition)
       → StopsWith (from + index) fault written later ending → condition ≡ condition_after (Err fault) → LeavesWhatStands old
       → RunsTurned rounding commands from old mid before later was condition (record { replied = index; refused = refused; ending = ending })
   fault_ends fault turned later ending was condition stops after stands_so =
       of_all mid later was condition ending
-      (turn_ends Kept KeptMid rounding (take index commands) done from refused old now mid before written next so fault turned (from + index) later ending was condition
+      (turn_ends kept kept_mid rounding (take index commands) done from refused old now mid before written next so fault turned (from + index) later ending was condition
       (drop (index + 1) commands) stops after numbered safe stands_so)
 
-  module _ (turn : Turn) (turned : TurnsTo Kept KeptMid rounding next now mid (Ok turn)) (command : Command) (is : command ≡ judged_of turn next.1) where
+  module _ (turn : Turn) (turned : TurnsTo (IsOf kept) (IsOf kept_mid) rounding next now mid (Ok turn)) (keeps : KeepsPaired kept kept_mid now mid) (command : Command) (is : command ≡ judged_of turn next.1) where
     abbrev judged : Key × Command
     judged = (next.0, judged_of turn next.1)
 
-    so_mid : SoFar KeptMid (λ book. IsTurned rounding book next judged) rounding (take index commands) done from refused old mid before written
-    so_mid = so_far_turn Kept KeptMid rounding (take index commands) done from refused old now mid before written next so turn turned
+    so_mid : SoFar kept_mid (λ book. IsTurned rounding book next judged) rounding (take index commands) done from refused old mid before written
+    so_mid = so_far_turn kept kept_mid rounding (take index commands) done from refused old now mid before written next so turn turned keeps
 
     -- it ends with the reply
-    pub reply_ends : (KeptThen : List Entry → Type 0) (new : State) (later : Option (List ℕ)) (ending : Ending) (was condition : Condition)
-        → RepliesTo KeptMid KeptThen next.0 command (from + index) mid new written later condition (Err ending)
+    pub reply_ends : (kept_then : Option Kept) (new : State) (later : Option (List ℕ)) (ending : Ending) (was condition : Condition)
+        → RepliesTo kept_mid kept_then next.0 command (from + index) mid new written later condition (Err ending)
         → (IsTrue new.is_open → (trees : Trees) → new.may_leave trees → trees ≡ new.committed.trees) → LeavesWhatStands old
         → RunsTurned rounding commands from old new before later was condition (record { replied = index; refused = refused; ending = ending })
-    reply_ends KeptThen new later ending was condition replies safe_then stands_so =
+    reply_ends kept_then new later ending was condition replies safe_then stands_so =
         of_all new later was condition ending
-        (ended (subst (λ (c : Command). RepliesTo KeptMid KeptThen next.0 c (from + index) mid new written later condition (Err ending)) is replies))
+        (ended (subst (λ (c : Command). RepliesTo kept_mid kept_then next.0 c (from + index) mid new written later condition (Err ending)) is replies))
       where
-        ended : RepliesTo KeptMid KeptThen next.0 (judged_of turn next.1) (from + index) mid new written later condition (Err ending)
+        ended : RepliesTo kept_mid kept_then next.0 (judged_of turn next.1) (from + index) mid new written later condition (Err ending)
             → RunsTurned rounding (take index commands ++ next ∷ drop (index + 1) commands) from old new before later was condition (record { replied = length done; refused = refused; ending = ending })
         ended replies_so =
-            run_ends KeptMid KeptThen rounding (take index commands) done (map handed (drop (index + 1) commands)) from refused (from + index) old mid new before written later
+            run_ends kept_mid kept_then rounding (take index commands) done (map handed (drop (index + 1) commands)) from refused (from + index) old mid new before written later
             next judged (λ book. IsTurned rounding book next judged) so_mid numbered ending was condition (drop (index + 1) commands) refl replies_so
             (λ book known. last_turned (is_judged replies_so.0) rounding book next judged known) safe_then stands_so
 
     -- it goes on behind the reply
-    pub goes_on : (KeptThen : List Entry → Type 0) (new : State) (later : Option (List ℕ)) (verdict : Verdict) (condition : Condition)
-        → RepliesTo KeptMid KeptThen next.0 command (from + index) mid new written later condition (Ok verdict)
+    pub goes_on : (kept_then : Option Kept) (new : State) (later : Option (List ℕ)) (verdict : Verdict) (condition : Condition)
+        → RepliesTo kept_mid kept_then next.0 command (from + index) mid new written later condition (Ok verdict)
         → (IsTrue new.is_open → (trees : Trees) → new.may_leave trees → trees ≡ new.committed.trees)
         → (all : List (Key × Command)) × (index + 1 ≡ length all)
-        × SoFar KeptThen Any rounding (take (index + 1) commands) all from (refused + count_refused (verdict ∷ [])) old new before later
-    goes_on KeptThen new later verdict condition replies safe_then = (
+        × SoFar kept_then Any rounding (take (index + 1) commands) all from (refused + count_refused (verdict ∷ [])) old new before later
+    goes_on kept_then new later verdict condition replies safe_then = (
       done ++ judged ∷ [],
       ap (λ n. n + 1) counted ∙ sym (length-append done (judged ∷ [])),
-      subst (λ (cs : List (Key × Asked)). SoFar KeptThen Any rounding cs (done ++ judged ∷ []) from (refused + count_refused (verdict ∷ [])) old new before later)
+      subst (λ (cs : List (Key × Asked)). SoFar kept_then Any rounding cs (done ++ judged ∷ []) from (refused + count_refused (verdict ∷ [])) old new before later)
           (sym (taken commands index next other is_next within))
-          (so_far_next KeptMid KeptThen rounding (take index commands) done [] from refused (from + index) old mid new before written later
+          (so_far_next kept_mid kept_then rounding (take index commands) done [] from refused (from + index) old mid new before written later
           next judged (λ book. IsTurned rounding book next judged) so_mid numbered verdict condition
-          (subst (λ (c : Command). RepliesTo KeptMid KeptThen next.0 c (from + index) mid new written later condition (Ok verdict)) is replies) safe_then
+          (subst (λ (c : Command). RepliesTo kept_mid kept_then next.0 c (from + index) mid new written later condition (Ok verdict)) is replies) safe_then
           (λ book known. known)),
     )
 

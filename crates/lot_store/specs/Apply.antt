@@ -11,6 +11,8 @@ use Rattle.lot_book.specs.Openings.{AgreesWithOpenings, FactsWithOpenings, IsAcc
 use Rattle.lot_book.specs.declared.change.Change.{Change}
 use Rattle.lot_book.specs.declared.verdict.Verdict.{Verdict}
 use Rattle.lot_book.specs.declared.verdict.Verdict.TheVariants as verdict
+use Rattle.lot_load.specs.Kept.{IsOf}
+use Rattle.lot_load.specs.declared.kept.Kept.{Kept as Known}
 use Rattle.lot_stored.specs.StandFor.{Stands}
 use Rattle.lot_write.specs.Call.{Stops as StopsWriting}
 use Rattle.lot_write.specs.Write.{written_all}
@@ -27,7 +29,7 @@ use Rattle.lot_store.specs.declared.book.Condition.{Condition}
 use Rattle.lot_store.specs.declared.book.Condition.TheVariants.{Ready, NeedsReopen as MustReopen}
 use Rattle.lot_store.specs.declared.fault.StoreFault.{StoreFault}
 use Rattle.lot_store.specs.declared.fault.StoreFault.TheVariants.{Device, InDoubt, NeedsReopen, Damaged, Memory}
-use Rattle.lot_store.specs.Damage.{MeetsDamage}
+use Rattle.lot_store.specs.Damage.{MeetsDamage, MeetsUnpaired}
 use Rattle.lot_store.specs.Session.{LeavesEntry}
 
 -- ---- faults
@@ -139,9 +141,11 @@ abbrev pub RefusedByDeviceWith : (List Entry → Type 0) → Key → Command →
 RefusedByDeviceWith Kept key command old new =
     (entries : List Entry) (stands : Stands old entries) → Kept entries → DiskFailed old new ⊎ HasNoRoomFor key command entries stands.tables old.now.trees new
 
--- why applying a command fails: where the device refuses it, its commit is in doubt, or a damaged text stands under its key
-pub record FailsFor (Kept : List Entry → Type 0) (key : Key) (command : Command) (old new : State)
+-- why applying a command fails: where the device refuses it, its commit is in doubt, a damaged text stands under its key, or
+-- lots that it looks at have no opening numbers
+pub record FailsFor (kept : Option Known) (key : Key) (command : Command) (old new : State)
     (result : Result Verdict StoreFault) : Type 0 where
-  pub device : HasCleanDisk new → result ≡ Err Device → RefusedByDeviceWith Kept key command old new
+  pub device : HasCleanDisk new → result ≡ Err Device → RefusedByDeviceWith (IsOf kept) key command old new
   pub in_doubt : HasCleanDisk new → result ≡ Err InDoubt → DiskFailed old new
   pub damage : MeetsDamage key old new result
+  pub unpaired : MeetsUnpaired kept command old new result

@@ -1,5 +1,6 @@
 -- What commands come to on tables, whatever these stand for: by the texts under their keys (docs/RULES.md, Keys and repeats).
 use Rattle.std.specs.Prelude.{◌≡◌, List, [], ◌∷◌, ◌++◌, IfSome, IsTrue, Option, None, Some, Result, Err, ⊤}
+use Rattle.std.specs.List.{AllByRecursion}
 use Rattle.std.specs.Result.{result_ok}
 use Rattle.sqlite.specs.State.{HasCleanDisk, State}
 use Rattle.lot_command.specs.Canonical.{canonical}
@@ -11,6 +12,7 @@ use Rattle.lot_book.specs.declared.change.Change.{Change}
 use Rattle.lot_book.specs.declared.verdict.Verdict.{Verdict}
 use Rattle.lot_book.specs.declared.verdict.Verdict.TheVariants.{Accepted, Repeated, Refused}
 use Rattle.lot_load.specs.Damage.{HasDamagedText, HasText}
+use Rattle.lot_load.specs.Paired.{HavePairedFor}
 use Rattle.lot_rows.specs.Tables.{Has, Tables}
 use Rattle.lot_write.specs.Write.{written_all}
 use Rattle.lot_write.specs.Writes.{writes_of}
@@ -78,7 +80,20 @@ EndsByText tables left old new answer Complete = (left ≡ []) × Has new tables
 EndsByText tables left old new answer (Stopped fault) = AnswersFirst tables left old new (Err fault)
 EndsByText tables left old new answer Output = AnswersFirst tables left old new answer
 
--- a run of commands on tables, whatever these stand for: the first of them came to the verdicts, and it ended behind those
+-- the answer to the first of these commands, where some pair that it posts to isn't paired in the tables before a run: it tells
+-- of the damage, or of what may come before
+abbrev pub MeetsUnpairedFirst : Tables → List (Key × Command) → State → State → Result Verdict StoreFault → Type 0
+MeetsUnpairedFirst tables [] old new answer = ⊤
+MeetsUnpairedFirst tables (next ∷ left) old new answer = ¬ HavePairedFor next.1 tables → IsOfDamage old new answer
+
+-- the same of how a run ends with these commands left
+abbrev pub EndsUnpaired : Tables → List (Key × Command) → State → State → Result Verdict StoreFault → Ending → Type 0
+EndsUnpaired tables left old new answer Complete = ⊤
+EndsUnpaired tables left old new answer (Stopped fault) = MeetsUnpairedFirst tables left old new (Err fault)
+EndsUnpaired tables left old new answer Output = MeetsUnpairedFirst tables left old new answer
+
+-- A run of commands on tables, whatever these stand for: the first of them came to the verdicts, and it ended behind those. Each
+-- account and commodity that they post to has the same lots in both tables before the run.
 pub record RunsByText (tables : Tables) (commands : List (Key × Command)) (verdicts : List Verdict) (old new : State)
     (answer : Result Verdict StoreFault) (ending : Ending) : Type 0 where
   pub done : List (Key × Command)
@@ -87,3 +102,5 @@ pub record RunsByText (tables : Tables) (commands : List (Key × Command)) (verd
   pub after : Tables
   pub turn : TurnAllByText tables done verdicts after
   pub ends : EndsByText after left old new answer ending
+  pub paired : AllByRecursion (λ (keyed : Key × Command). HavePairedFor keyed.1 tables) done
+  pub unpaired : EndsUnpaired tables left old new answer ending

@@ -9,6 +9,9 @@ use Rattle.lot_book.specs.Facts.{Entry}
 use Rattle.lot_book.specs.Judged.{JudgesOn}
 use Rattle.lot_book.specs.declared.verdict.Verdict.{Verdict}
 use Rattle.lot_book.specs.declared.verdict.Verdict.TheVariants.{Accepted, Repeated, Refused}
+use Rattle.lot_load.specs.Kept.{IsOf}
+use Rattle.lot_load.specs.Paired.{FindsPaired, KeepsPaired}
+use Rattle.lot_load.specs.declared.kept.Kept.{Kept as Known}
 use Rattle.lot_rows.specs.Tables.{Has, Tables}
 use Rattle.lot_stored.specs.StandFor.{Stands}
 use Rattle.std.specs.declared.io.Error.{Error}
@@ -77,15 +80,16 @@ EndsAt number answer old new ending =
     ⊎ ((ending ≡ Output) × AppendsSome old new (answer_line number answer))
 
 -- A command of that number is applied, and its reply is written, or the run ends at it, and that is the condition of the book
--- then. On any tables a verdict is by the text under its key. `Kept` tells of which books is what is kept before it, and
--- `KeptThen` of which is what is kept then.
-abbrev pub RepliesTo : (Kept KeptThen : List Entry → Type 0) → Key → Command → ℕ → State → State → Option (List ℕ) → Option (List ℕ) → Condition → Result Verdict Ending → Type 0
-RepliesTo Kept KeptThen key command number old new before written condition (Ok verdict) =
-    AppliesWith Kept KeptThen key command old new (Ok verdict) × Appends before written (reply number verdict)
+-- then. On any tables a verdict is by the text under its key, and the lots that were looked at for it are paired. The first that
+-- is kept is kept before it, the other one then.
+abbrev pub RepliesTo : Option Known → Option Known → Key → Command → ℕ → State → State → Option (List ℕ) → Option (List ℕ) → Condition → Result Verdict Ending → Type 0
+RepliesTo kept kept_then key command number old new before written condition (Ok verdict) =
+    AppliesWith (IsOf kept) (IsOf kept_then) key command old new (Ok verdict) × Appends before written (reply number verdict)
     × IsByText key command old new (Ok verdict)
-RepliesTo Kept KeptThen key command number old new before written condition (Err ending) =
-    (answer : Result Verdict StoreFault) × AppliesWith Kept KeptThen key command old new answer
-    × FailsFor Kept key command old new answer × IsByText key command old new answer
+    × FindsPaired {R = Verdict} {E = StoreFault} kept command old new (Ok verdict) × KeepsPaired kept kept_then old new
+RepliesTo kept kept_then key command number old new before written condition (Err ending) =
+    (answer : Result Verdict StoreFault) × AppliesWith (IsOf kept) (IsOf kept_then) key command old new answer
+    × FailsFor kept key command old new answer × IsByText key command old new answer
     × (answer ≢ Err NeedsReopen)
     × (condition ≡ condition_after answer) × EndsAt number answer before written ending
 

@@ -1,9 +1,10 @@
 ghost use Rattle.std.specs.Prelude.{◌≡◌, ◌≢◌, ◌↔◌, false, Err, IsTrue, None, OnErr, option_copied};
 ghost use Rattle.lot_load.specs.Kept.{IsOf};
+ghost use Rattle.lot_load.specs.Paired.{FindsPaired, KeepsPaired};
 ghost use Rattle.lot_store.specs.Apply.{AppliesWith, RefusedByDeviceWith, condition_after, ready_of};
 ghost use Rattle.std.specs.Result.{result_ok};
 ghost use Rattle.lot_store.specs.ByText.{IsByText};
-ghost use Rattle.lot_store.specs.Damage.{MeetsDamage};
+ghost use Rattle.lot_store.specs.Damage.{MeetsDamage, MeetsUnpaired};
 ghost use Rattle.lot_store.specs.Extent.{Measures};
 ghost use Rattle.lot_store.specs.Step.{LeavesTables, condition_from};
 ghost use Rattle.lot_store.specs.Turned.{TurnsTo};
@@ -53,8 +54,9 @@ impl<S: Alter> Book<S> {
     /// `Device` and `InDoubt`, and only then, the book needs reopening.
     ///
     /// Where the text under the key is the canonical text of no command, the call fails: with `Damaged`, unless memory or the
-    /// disk fails before. Whatever the tables stand for, a verdict is by the text that they have under the key. After
-    /// `Accepted` the canonical text of the command stands there.
+    /// disk fails before. So it does where the tables don't have the same lots and opening numbers of an account and a commodity
+    /// that the command posts to, unless all of these was known already. Whatever the tables stand for, a verdict is by the
+    /// text that they have under the key. After `Accepted` the canonical text of the command stands there.
     pub(crate) fn apply(
         &mut self,
         kept: &mut Option<Kept>,
@@ -82,6 +84,12 @@ impl<S: Alter> Book<S> {
             (state S.Store self.old.conn) (state S.Store self.new.conn) result }
         ensures text { IsByText key.now command.now
             (state S.Store self.old.conn) (state S.Store self.new.conn) result }
+        ensures unpaired { MeetsUnpaired kept.old command.now
+            (state S.Store self.old.conn) (state S.Store self.new.conn) result }
+        ensures paired { FindsPaired kept.old command.now
+            (state S.Store self.old.conn) (state S.Store self.new.conn) result }
+        ensures whole { KeepsPaired kept.old kept.new
+            (state S.Store self.old.conn) (state S.Store self.new.conn) }
     {
         let applied = apply_to(self.alloc, &mut self.conn, kept, key, command);
         self.condition = condition_after(&applied);
@@ -104,6 +112,8 @@ impl<S: Alter> Book<S> {
             → (trees : Trees) → (state S.Store self.new.conn).may_leave trees
             → trees ≡ (state S.Store self.new.conn).committed.trees }
         ensures condition { self.new.condition ≡ condition_from self.old.condition result }
+        ensures whole { KeepsPaired kept.old kept.new
+            (state S.Store self.old.conn) (state S.Store self.new.conn) }
     {
         let turned = turn_of(self.alloc, &mut self.conn, kept, rounding, key, asked);
         if let Err(StoreFault::Device) = turned {
@@ -239,6 +249,12 @@ fn apply_to<S: Alter>(
         (state S.Store conn.old) (state S.Store conn.new) result }
     ensures text { IsByText key.now command.now
         (state S.Store conn.old) (state S.Store conn.new) result }
+    ensures unpaired { MeetsUnpaired kept.old command.now
+        (state S.Store conn.old) (state S.Store conn.new) result }
+    ensures paired { FindsPaired kept.old command.now
+        (state S.Store conn.old) (state S.Store conn.new) result }
+    ensures whole { KeepsPaired kept.old kept.new
+        (state S.Store conn.old) (state S.Store conn.new) }
 {
     is_sayable(command);
     what_is_written_stands_for_the_book();

@@ -30,4 +30,4 @@ pub use fault::{AdoptFault, CreateFault, HandedBack, StoreFault};
 pub use lot_walk::{PairPrice, laws};
 pub use run::{Ending, RunEnd};
 pub use turn::{Turn, turn_with};
-pub use walk::{Gains, Holdings, Journal, Prices, Walk, WalkFault};
+pub use walk::{Gains, Holdings, Journal, Legs, Prices, Walk, WalkFault};

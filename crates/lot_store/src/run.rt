@@ -1,5 +1,4 @@
 ghost use Rattle.std.specs.Prelude.{◌≡◌, ◌≢◌, ◌+◌, ◌<◌, ◌^◌, [], ◌∷◌, length, IsOk, IsTrue, OnErr, option_copied};
-ghost use Rattle.lot_load.specs.Kept.{IsOf};
 ghost use Rattle.lot_report.specs.Printed.{reply};
 ghost use Rattle.lot_io.specs.Writes.{HasFailed, IsFlushed, writes_between};
 ghost use Rattle.lot_store.specs.Run.{FlushesLine, IsWrittenOut, IsWrittenOutAs, RepliesTo, StopsAtOnce, StopsWith, WritesOut, count_refused, flush_outcome};
@@ -146,7 +145,7 @@ impl<S: Alter> Book<S> {
         writer: &mut W,
     ) -> Result<Verdict, Ending>
         requires { self.old.condition ≡ Condition.Ready }
-        ensures replies { RepliesTo (IsOf kept.old) (IsOf kept.new) key.now command.now number
+        ensures replies { RepliesTo kept.old kept.new key.now command.now number
             (state S.Store self.old.conn) (state S.Store self.new.conn)
             (W.contents writer.old) (W.contents writer.new) self.new.condition result }
         ensures safe { IsTrue (state S.Store self.new.conn).is_open → (trees : Trees)

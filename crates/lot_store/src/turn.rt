@@ -3,6 +3,7 @@ ghost use Rattle.std.specs.Prelude.{◌≡◌, false, IfOk, IfSome, None, Some, 
 ghost use Rattle.lot_book.specs.Openings.{ties_on};
 ghost use Rattle.lot_book.specs.Step.{DecidesUnder, Outcome as OutcomeOf};
 ghost use Rattle.lot_load.specs.Kept.{IsOf, Keeps};
+ghost use Rattle.lot_load.specs.Paired.{KeepsPaired};
 ghost use Rattle.lot_load.specs.Tells.{Tells};
 ghost use Rattle.lot_store.specs.Turned.{FitsVerdict, IsTried, IsTurned, TurnsTo, judged_of, refusal_of};
 ghost use Rattle.lot_view.specs.View.{known, known_with_openings};
@@ -84,6 +85,8 @@ pub(crate) fn turn_of<S: Alter>(
     ensures outside { HasCleanDisk (state S.Store conn.new) → conn.new.in_transaction ≡ false }
     ensures turns { TurnsTo (IsOf kept.old) (IsOf kept.new) (option_copied rounding.entry)
         (key.now, asked.now) (state S.Store conn.old) (state S.Store conn.new) result }
+    ensures whole { KeepsPaired kept.old kept.new
+        (state S.Store conn.old) (state S.Store conn.new) }
 {
     let Some(rounding) = rounding else {
         return Ok(Turn::as_handed_in(None));
@@ -110,6 +113,8 @@ pub fn turn_with<D: Queryable>(
         × IsTurned (Some rounding.now) entries (key.now, asked.now)
         (key.now, judged_of found.1 asked.now))
         (D.shown conn.old) (D.shown conn.new) result }
+    ensures whole { IfOk result (λ found. KeepsPaired kept (Some found.0)
+        (D.shown conn.old) (D.shown conn.new)) }
 {
     canonical_texts_tell_commands_apart();
     there_is_one_completion();
@@ -136,6 +141,8 @@ fn try_with<D: Queryable>(
     ensures tells { Tells (λ found entries. Keeps kept entries → Keeps found.0 entries
         × IsTried entries key.now other found.1.other)
         (D.shown conn.old) (D.shown conn.new) result }
+    ensures whole { IfOk result (λ found. KeepsPaired (Some kept) (Some found.0)
+        (D.shown conn.old) (D.shown conn.new)) }
 {
     let looked = look_on(alloc, conn, Some(kept), key, &other)?;
     match refusal_of(alloc, looked.view(), &other)? {

@@ -1,6 +1,8 @@
 //! Walks over the rows of a book: each is a value that borrows the book, and gives one row after another.
 ghost use Rattle.std.specs.Prelude.{◌≡◌, [], List};
 ghost use Rattle.lot_book.specs.Facts.{Entry};
+ghost use Rattle.lot_legs.specs.Legs.{AreDatedLegs};
+ghost use Rattle.lot_legs.specs.Place.{IsBehindLegRows, IsBehindLegs};
 ghost use Rattle.lot_rows.specs.Tables.{Has, Tables};
 ghost use Rattle.lot_store.specs.Walk.{HasGiven, HasGivenRows, Walks, WalksOverRows, stage_after};
 ghost use Rattle.lot_stored.specs.StandFor.{Stands};
@@ -13,6 +15,7 @@ ghost use Rattle.sqlite.specs.Held.{state};
 use crate::book::Book;
 use crate::fault::StoreFault;
 use lot_base::Day;
+use lot_legs::LegsPlace;
 use lot_walk::{GainsPlace, HoldingsPlace, JournalPlace, Place, PricesPlace};
 use sqlite::Alter;
 use thiserror::Error;
@@ -25,6 +28,9 @@ pub type Holdings<'a, S> = Walk<'a, S, HoldingsPlace>;
 
 /// A walk over the entries of a book, in their order. Each has the canonical text of its command.
 pub type Journal<'a, S> = Walk<'a, S, JournalPlace>;
+
+/// A walk over the legs of a book, in the order of entries, postings and places, each with the day of its entry.
+pub type Legs<'a, S> = Walk<'a, S, LegsPlace>;
 
 /// A walk over the prices of a book at a day, by base and quote. A pair without a price at the day isn't given.
 pub type Prices<'a, S> = Walk<'a, S, PricesPlace>;
@@ -62,7 +68,8 @@ enum Stage {
 }
 
 /// A walk over rows of a book, which it borrows. It holds a page of rows at a time. A walk over the holdings also holds all
-/// plain units, and a walk over the gains the legs of a sale. It may be dropped at any row; that changes nothing.
+/// plain units, a walk over the gains the legs of a sale, and one over the legs a page of entries. It may be dropped at any row;
+/// that changes nothing.
 pub struct Walk<'a, S: Alter, P> {
     book: &'a mut Book<S>,
     place: P,
@@ -81,6 +88,38 @@ impl<S: Alter> Book<S> {
             → HasGivenRows S.Store IsBehindEntryRows result tt tables [] }
     {
         let place = JournalPlace::new(self.allocator());
+        Walk {
+            book: self,
+            place,
+            stage: Stage::Going,
+        }
+    }
+
+    /// Returns a walk over all legs, each with the day of its entry, before the first. It reads nothing yet.
+    pub fn legs(&mut self) -> Legs<'_, S>
+        ensures same_reference { result.book.ghost_name ≡ self.entry.ghost_name }
+        ensures same { result.book.now ≡ self.old }
+        ensures going { result.stage ≡ Stage.Going }
+        ensures begun { (entries : List Entry) → Stands (state S.Store self.old.conn) entries
+            → HasGiven S.Store AreDatedLegs IsBehindLegs result tt entries [] }
+        ensures rows { (tables : Tables) → Has (state S.Store self.old.conn) tables
+            → HasGivenRows S.Store IsBehindLegRows result tt tables [] }
+    {
+        let place = LegsPlace::new(self.allocator());
+        Walk {
+            book: self,
+            place,
+            stage: Stage::Going,
+        }
+    }
+
+    /// Returns a walk from a place. It reads nothing yet. What the walk gives is what the place gives.
+    pub fn walk_from<P: Place>(&mut self, place: P) -> Walk<'_, S, P>
+        ensures same_reference { result.book.ghost_name ≡ self.entry.ghost_name }
+        ensures same { result.book.now ≡ self.old }
+        ensures going { result.stage ≡ Stage.Going }
+        ensures place { result.place ≡ place }
+    {
         Walk {
             book: self,
             place,

@@ -1,2 +1,5 @@
-pub mod Gather
+pub mod Activity
 pub mod GainsBy
+pub mod Gather
+pub mod Held
+pub mod Reconciliation

@@ -11,7 +11,7 @@ ghost use Rattle.lot_tally.specs.declared.key.GainKey.{GainKey as GainKeyOf};
 ghost use Rattle.lot_tally.specs.declared.key.TableForm.{TableForm as TableFormOf};
 
 use crate::show::show_table;
-use crate::tally::Tally;
+use crate::tally::{Table, Tally};
 use lot_base::Day;
 use lot_book_report::ShowFault;
 use lot_io::CountedWrite;
@@ -68,7 +68,9 @@ impl Tally<NumberedSale> for GainsTable<'_> {
     fn take(&mut self, row: NumberedSale) -> Result<(), ReportFault> {
         self.add(&row.sale)
     }
+}
 
+impl Table<NumberedSale> for GainsTable<'_> {
     fn print<W: CountedWrite>(&self, writer: &mut W) -> Result<(), PrintFault> {
         self.write(writer)
     }

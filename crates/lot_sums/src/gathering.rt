@@ -1,4 +1,4 @@
-//! All rows of a walk are taken into a table.
+//! All rows of a walk are taken, and added up.
 
 ghost use Rattle.std.specs.Prelude.{◌≡◌, [], List, OnOk, map};
 ghost use Rattle.lot_book.specs.Facts.{Entry};
@@ -19,10 +19,10 @@ use lot_store::{StoreFault, Walk};
 use lot_walk::Place;
 use sqlite::Alter;
 
-/// Takes all rows of a walk, which stands before its first one, into a table.
+/// Takes all rows of a walk, which stands before its first one, into what adds them up.
 ///
 /// Where a sum leaves its range, the rows before were taken. Nothing is written. In the contract rows are what the walk tells of
-/// them, and `tell` is what the table is told of that.
+/// them, and `tell` is what the tally is told of that.
 pub fn gather<S: Alter, P: Place, T: Tally<P::Row>>(
     walk: &mut Walk<'_, S, P>,
     tally: &mut T,

@@ -15,7 +15,7 @@ ghost use Rattle.sqlite.specs.Held.{state};
 ghost use Rattle.sqlite.specs.State.{HasCleanDisk};
 
 use crate::gathering::gather;
-use crate::tally::Tally;
+use crate::tally::Table;
 use lot_book_report::ShowFault;
 use lot_io::CountedWrite;
 use lot_store::Walk;
@@ -25,9 +25,10 @@ use sqlite::Alter;
 /// Takes all rows of a walk, which stands before its first one, into a table that has taken none, and writes the table. Nothing is
 /// flushed.
 ///
-/// Where the book stops, or a sum leaves its range, nothing is written. In the contract rows are what the walk tells of them, and
+/// Where the book stops, or a sum leaves its range, nothing is written. Where the call succeeds, the table has taken all rows of the
+/// book. In the contract rows are what the walk tells of them, and
 /// `tell` is what the table is told of that.
-pub fn show_table<S: Alter, P: Place, T: Tally<P::Row>, W: CountedWrite>(
+pub fn show_table<S: Alter, P: Place, T: Table<P::Row>, W: CountedWrite>(
     walk: &mut Walk<'_, S, P>,
     tally: &mut T,
     writer: &mut W,
@@ -47,6 +48,14 @@ pub fn show_table<S: Alter, P: Place, T: Tally<P::Row>, W: CountedWrite>(
         → (all : List P.Place.Shown) × P.Place.AreAll asked entries all
         × ShowsTable (T.Tally.fits terms) (T.Tally.AreLines terms) (map tell all)
         (W.contents writer.old) (W.contents writer.new) result }
+    ensures keeps { (terms : T.Tally.Terms) → T.Tally.HasTaken terms [] tally.old
+        → (tell : P.Place.Shown → T.Tally.Told)
+        → AreToldAs P.Place.shown T.Tally.told tell
+        → HasCleanDisk (state S.Store walk.new.book.now.conn)
+        → (asked : P.Place.Asked) (entries : List Entry)
+        → HasGiven S.Store P.Place.AreAll P.Place.IsBehind walk.old asked entries []
+        → OnOk result ((all : List P.Place.Shown) × P.Place.AreAll asked entries all
+        × T.Tally.HasTaken terms (map tell all) tally.new) }
     ensures some { (terms : T.Tally.Terms) → T.Tally.HasTaken terms [] tally.old
         → (rows : List T.Tally.Told)
         × ShowsTable (T.Tally.fits terms) (T.Tally.AreLines terms) rows

@@ -1,4 +1,4 @@
-//! A table that takes rows, and adds them up.
+//! What takes rows and adds them up, and tables that are written once all are taken.
 
 ghost use Rattle.std.specs.Prelude.{◌∷◌, ◌++◌, [], Bool, IsErrOf, List, OnOk, ℕ};
 ghost use Rattle.lot_io.specs.Writes.{HasFailed, NoneFailed};
@@ -8,12 +8,12 @@ ghost use Rattle.lot_tally.specs.Rows.{Adds};
 use lot_io::CountedWrite;
 use lot_report::{PrintFault, ReportFault};
 
-/// A table that takes rows, and adds them up.
+/// What takes rows, and adds them up.
 pub trait Tally<Row> {
     // What is asked for.
     ghost Terms: { Type 0 };
 
-    // What a row tells the table.
+    // What a row tells it.
     ghost Told: { Type 0 };
 
     ghost told: { Row → Told };
@@ -21,10 +21,10 @@ pub trait Tally<Row> {
     // Whether all sums stay in their range with a row behind others.
     ghost fits: { Terms → List Told → Told → Bool };
 
-    // The table has taken these rows and no other.
+    // It has taken these rows and no other.
     ghost HasTaken: { Terms → List Told → Self → Type 0 };
 
-    // The lines of the table of these rows.
+    // The lines of the table of these rows, where it is written as a table.
     ghost AreLines: { Terms → List Told → List (List ℕ) → Type 0 };
 
     /// Takes one more row. The error is `Range` where a sum leaves its range, or `Memory`.
@@ -32,12 +32,16 @@ pub trait Tally<Row> {
         ensures { (terms : Terms) (rows : List Told) → HasTaken terms rows self.old
             → Adds (fits terms rows (told row))
             (HasTaken terms (rows ++ told row ∷ []) self.new) result };
+}
 
+/// A table that takes rows, adds them up, and is written.
+pub trait Table<Row>: Tally<Row> {
     /// Writes the table. Where memory ends, whole lines are written, but not all. Where the writer fails, a prefix of the lines is
     /// written, but not all of them.
     fn print<W: CountedWrite>(&self, writer: &mut W) -> Result<(), PrintFault>
-        ensures lines { (terms : Terms) (rows : List Told) → HasTaken terms rows self.now
-            → (lines : List (List ℕ)) × AreLines terms rows lines
+        ensures lines { (terms : Self.Terms) (rows : List Self.Told)
+            → Self.HasTaken terms rows self.now
+            → (lines : List (List ℕ)) × Self.AreLines terms rows lines
             × WritesEach (λ text. text) lines (W.contents writer.old) (W.contents writer.new)
             result }
         ensures cause { IsErrOf result PrintFault.Write → HasFailed (W.calls writer.new) }

@@ -1,8 +1,8 @@
-ghost use Rattle.std.specs.Prelude.{◌≡◌};
-ghost use Rattle.lot_book_report.specs.Csv.{ShowsAllCsvWith, ShowsAllHoldingsCsv, ShowsCsvWith, ShowsHoldingsCsv, ShowsSomeCsv, ShowsSomeHoldingsCsv, columns_for, record_of_holding};
+ghost use Rattle.std.specs.Prelude.{◌≡◌, IfErr, map};
+ghost use Rattle.lot_book_report.specs.Csv.{ShowsAllCsvWith, ShowsAllHoldingsCsv, ShowsCsv, ShowsCsvWith, ShowsHoldingsCsv, ShowsSomeCsv, ShowsSomeHoldingsCsv, columns_for, record_of_holding};
 ghost use Rattle.lot_book_report.specs.Fault.{HasCause};
 ghost use Rattle.lot_book_report.specs.Holdings.{valued_with};
-ghost use Rattle.lot_book_report.specs.Show.{HoldsOfBook, HoldsOfTables, ReadsBook};
+ghost use Rattle.lot_book_report.specs.Show.{HoldsOfBook, HoldsOfTables, IsOfReport, ReadsBook};
 ghost use Rattle.lot_csv.specs.Holdings.{holdings_header};
 ghost use Rattle.lot_io.specs.Writes.{writes_between};
 
@@ -14,7 +14,7 @@ use lot_base::Day;
 use lot_book::Holding;
 use lot_csv::{Columns, holdings_header, write_holding};
 use lot_io::CountedWrite;
-use lot_report::PrintFault;
+use lot_report::{PrintFault, print_texts};
 use lot_store::Book;
 use sqlite::Alter;
 use std::alloc::Global;
@@ -82,6 +82,30 @@ fn write_holdings_csv<S: Alter, W: CountedWrite>(
         &mut walk,
         writer,
     )
+}
+
+/// Writes rows of holdings that are given at once, as `show_holdings_csv` writes those of a book: a header, and a record for each,
+/// with its value where there are prices. Nothing is flushed.
+///
+/// Where the writer fails, a prefix of the output is written. Where memory ends, whole records are, but not all.
+pub fn write_listed_csv<W: CountedWrite>(
+    alloc: Global,
+    rows: Vec<Holding>,
+    prices: &Option<DayPrices>,
+    writer: &mut W,
+) -> Result<(), ShowFault>
+    ensures shows { ShowsCsv (holdings_header (columns_for prices.now))
+        (record_of_holding (columns_for prices.now)) (map (valued_with prices.now) rows.items)
+        (W.contents writer.old) (W.contents writer.new) result }
+    ensures fault { IfErr result IsOfReport }
+    ensures cause { HasCause result (writes_between (W.calls writer.old) (W.calls writer.new)) }
+{
+    let records = HoldingRecords { prices };
+    print_texts(writer, &[holdings_header(columns(prices))])?;
+    for holding in rows {
+        records.write(alloc, holding, writer)?;
+    }
+    Ok(())
 }
 
 /// The records of holdings, each with its value where there are prices.

@@ -100,10 +100,11 @@ $ lotbook holdings --book family.book
         code: "P1",
         name: "Range",
         brief: "a total is out of range",
-        rule: "A total of a report is out of the range of its numbers.",
+        rule: "A sum of a report is out of the range of its numbers: a total, or what is held in a \
+            position.",
         examples: Examples::Absent,
         help: "Ask for fewer gains, with --first and --last, or for a table, which has no totals, with \
-            --format csv.",
+            --format csv; of a past day, for another day.",
         page: "docs/RULES.md, Numbers",
     },
     Code {

@@ -28,3 +28,8 @@ pub rounding-requires-in-import : goal.rounding-requires-in-import
 rounding-requires-in-import c =
     let rows = rows_of (found_of c.args.options.now) in
     good_rounding rows (subst (λ (word : Text). first_bad rows (options_of word) ≡ None) c.in-import.is c.requires.good)
+
+pub register-requires : goal.register-requires
+register-requires c =
+    let rows = rows_of (found_of c.args.options.now) in
+    subst (λ (word : Text). first_bad rows (options_of word) ≡ None) c.in-register.is c.requires.good

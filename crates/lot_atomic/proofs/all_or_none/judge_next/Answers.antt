@@ -15,6 +15,7 @@ use Rattle.lot_store.proofs.ApplyLemmas.{LooksOn, refused_number}
 use Rattle.lot_store.specs.Apply.{store_fault_of}
 use Rattle.lot_store.proofs.ByTextLemmas.{has_along, turns_accepted}
 use Rattle.lot_store.proofs.DamageLemmas.{looked_at}
+use Rattle.lot_store.proofs.PairedLemmas.{none_whole, whole_recorded}
 use Rattle.lot_store.proofs.KeptLemmas.{accepted_on, comes_on, kept_then, stops_on, writes_on}
 use Rattle.lot_atomic.proofs.all_or_none.judge_next.Goals as goal
 
@@ -104,7 +105,7 @@ returns-in_ok-write_all-in-Ok-Accept-clause-judges g c =
     (accepts_inside (IsOf c.args.kept.now) (Keeps looked) c.args.key.now c.args.command.now (seen_with_openings looked) old mid c.requires.inside read.same looks
     read.crash c.what_is_written_stands_for_the_book.ensures c.in-Ok-Accept.change c.deref.result.now are comes made.ordered
     c.is_sayable.ensures (rw c.deref.ensures.value made.good) new (IsOf (result_ok c.record.result))
-    (kept_then looked c.args.key.now c.args.command.now c.in-Ok-Accept.change c.record.result c.record.ensures comes)
+    (kept_then looked c.args.key.now c.args.command.now c.in-Ok-Accept.change c.record.result c.record.ensures.keeps comes)
     c.in_ok-write_all-in-Ok-Accept.ensures.writes)
 
 -- ---- the text under the key
@@ -175,3 +176,70 @@ returns-in-Err-Refused-clause-text g c clean tables has =
       ),
       has_along (state g.S.Store c.args.tx.now.conn.now) (state g.S.Store c.look_on.new.conn.conn.now) tables (c.in_ok-looked.ensures.looks.same clean).0.now_is has,
     )
+
+-- ---- lots and their opening numbers
+
+pub returns-in_err-looked-clause-pairs : goal.returns-in_err-looked-clause-pairs
+returns-in_err-looked-clause-pairs g c =
+    let fault = err_from_is_err_and c.from_residual.result c.from_residual.ensures.1 in
+    rw (fault.1, fault.2) (record {
+      unpaired = λ clean tables has unpaired.
+          looked_at c.in_err-looked.field-0.0 (state g.S.Store c.args.tx.now.conn.now) (state g.S.Store c.look_on.new.conn.conn.now)
+          (Err (store_fault_of c.in_err-looked.field-0.0)) refl (λ is. c.in_err-looked.ensures.looks.device clean (ap Err is));
+      paired = λ clean. tt;
+      whole = λ clean tables has. none_whole c.args.kept.now tables c.take.new.self c.take.ensures.after;
+    })
+
+pub returns-in_err-writes-in-Ok-Accept-clause-pairs : goal.returns-in_err-writes-in-Ok-Accept-clause-pairs
+returns-in_err-writes-in-Ok-Accept-clause-pairs g c =
+    let fault = err_from_is_err_and c.from_residual-in_err-writes-in-Ok-Accept.result c.from_residual-in_err-writes-in-Ok-Accept.ensures.1 in
+    rw (fault.1, fault.2) (record {
+      unpaired = λ clean tables has unpaired. absurd (unpaired ((rw c.take.ensures.value at c.in_ok-looked.ensures.paired) clean tables has));
+      paired = λ clean. tt;
+      whole = λ clean tables has. none_whole c.args.kept.now tables c.take.new.self c.take.ensures.after;
+    })
+
+pub returns-in_err-write_all-in-Ok-Accept-clause-pairs : goal.returns-in_err-write_all-in-Ok-Accept-clause-pairs
+returns-in_err-write_all-in-Ok-Accept-clause-pairs g c =
+    let fault = err_from_is_err_and c.from_residual-in_err-write_all-in-Ok-Accept.result c.from_residual-in_err-write_all-in-Ok-Accept.ensures.1 in
+    rw (fault.1, fault.2) (record {
+      unpaired = λ clean tables has unpaired.
+          absurd (unpaired ((rw c.take.ensures.value at c.in_ok-looked.ensures.paired)
+          (omega (arith, clean, c.in_err-write_all-in-Ok-Accept.ensures.writes.crash.clean)) tables has));
+      paired = λ clean. tt;
+      whole = λ clean tables has. none_whole c.args.kept.now tables c.take.new.self c.take.ensures.after;
+    })
+
+pub returns-in_ok-write_all-in-Ok-Accept-clause-pairs : goal.returns-in_ok-write_all-in-Ok-Accept-clause-pairs
+returns-in_ok-write_all-in-Ok-Accept-clause-pairs g c = record {
+  unpaired = λ clean tables has unpaired.
+      absurd (unpaired ((rw c.take.ensures.value at c.in_ok-looked.ensures.paired)
+      (omega (arith, clean, c.in_ok-write_all-in-Ok-Accept.ensures.writes.crash.clean)) tables has));
+  paired = λ clean tables has.
+      (rw c.take.ensures.value at c.in_ok-looked.ensures.paired) (omega (arith, clean, c.in_ok-write_all-in-Ok-Accept.ensures.writes.crash.clean)) tables has;
+  whole = λ clean tables has.
+      rw c.ok.ensures.value
+      (whole_recorded c.args.kept.now c.in_ok-looked.looked tables c.record.result c.record.ensures.whole
+      ((rw c.take.ensures.value at c.in_ok-looked.ensures.whole) (omega (arith, clean, c.in_ok-write_all-in-Ok-Accept.ensures.writes.crash.clean)) tables has));
+}
+
+pub returns-in-Ok-Repeat-clause-pairs : goal.returns-in-Ok-Repeat-clause-pairs
+returns-in-Ok-Repeat-clause-pairs g c = record {
+  unpaired = λ clean tables has unpaired. absurd (unpaired ((rw c.take.ensures.value at c.in_ok-looked.ensures.paired) clean tables has));
+  paired = λ clean tables has. (rw c.take.ensures.value at c.in_ok-looked.ensures.paired) clean tables has;
+  whole = λ clean tables has. (rw c.take.ensures.value at c.in_ok-looked.ensures.whole) clean tables has;
+}
+
+pub returns-in-Err-Refused-clause-pairs : goal.returns-in-Err-Refused-clause-pairs
+returns-in-Err-Refused-clause-pairs g c = record {
+  unpaired = λ clean tables has unpaired. absurd (unpaired ((rw c.take.ensures.value at c.in_ok-looked.ensures.paired) clean tables has));
+  paired = λ clean tables has. (rw c.take.ensures.value at c.in_ok-looked.ensures.paired) clean tables has;
+  whole = λ clean tables has. (rw c.take.ensures.value at c.in_ok-looked.ensures.whole) clean tables has;
+}
+
+pub returns-in-Err-Memory-clause-pairs : goal.returns-in-Err-Memory-clause-pairs
+returns-in-Err-Memory-clause-pairs g c = record {
+  unpaired = λ clean tables has unpaired. absurd (unpaired ((rw c.take.ensures.value at c.in_ok-looked.ensures.paired) clean tables has));
+  paired = λ clean. tt;
+  whole = λ clean tables has. none_whole c.args.kept.now tables c.take.new.self c.take.ensures.after;
+}

@@ -18,3 +18,6 @@ returns-in-Report-clause-serves g c = rw c.in-Report.is c.write_report.ensures.r
 
 pub returns-in-Restore-clause-serves : goal.returns-in-Restore-clause-serves
 returns-in-Restore-clause-serves g c = rw c.in-Restore.is c.restore.ensures.restores
+
+pub returns-in-Reconcile-clause-serves : goal.returns-in-Reconcile-clause-serves
+returns-in-Reconcile-clause-serves g c = rw c.in-Reconcile.is c.reconcile.ensures.reconciles

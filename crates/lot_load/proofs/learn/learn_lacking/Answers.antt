@@ -1,7 +1,12 @@
 -- What was lacking is learned, so it is known whole with the rest.
+use Rattle.std.specs.Prelude.{List}
+use Rattle.std.proofs.Common.{subst}
+use Rattle.lot_book.specs.declared.change.Pair.{Pair}
 use Rattle.lot_load.specs.Kept.{Covers, Keeps}
+use Rattle.lot_load.specs.Paired.{HaveAllPaired}
 use Rattle.lot_load.specs.declared.kept.Kept.{Kept}
 use Rattle.lot_load.proofs.KeptLemmas.{covers_learned}
+use Rattle.lot_load.proofs.PairedLemmas.{pairs_added, pairs_touched}
 use Rattle.lot_load.proofs.ReadLemmas.{reads_first, tells}
 use Rattle.lot_load.proofs.learn.learn_lacking.Goals as goal
 
@@ -22,3 +27,14 @@ returns-clause-tells g c =
     (record { accounts = lacks.accounts; declared = lacks.declared; pairs = lacks.pairs; plain = lacks.plain })
     (record { accounts = gains.accounts; declared = gains.declared; pairs = gains.pairs; plain = gains.plain })
     (is entries book stand)))
+
+pub returns-clause-paired : goal.returns-clause-paired
+returns-clause-paired g c clean tables has =
+    pairs_touched c.args.kept.now tables c.args.touched.pairs
+    (subst (λ (pairs : List Pair). HaveAllPaired pairs tables) c.lacking-lacking.ensures.pairs
+    (c.in_ok-learn_touched.ensures.paired clean tables has))
+
+pub returns-clause-whole : goal.returns-clause-whole
+returns-clause-whole g c clean tables has =
+    pairs_added c.args.kept.now tables c.add.new.whole.pairs c.lacking-lacking.result.pairs.keys c.in_ok-add.ensures.pairs
+    (c.in_ok-learn_touched.ensures.paired clean tables has)

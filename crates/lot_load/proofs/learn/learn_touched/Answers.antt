@@ -1,7 +1,8 @@
 -- The four steps, one after another.
 use Rattle.lot_book.specs.Facts.{Facts}
 use Rattle.lot_view.specs.View.{known_with_openings}
-use Rattle.lot_load.proofs.ReadLemmas.{HasRead, reads_first, reads_next, tells_last}
+use Rattle.lot_load.proofs.ReadLemmas.{HasRead, if_ok, reads_first, reads_next, tells_last}
+use Rattle.lot_rows.proofs.StateLemmas.{early, has_still, same_then}
 use Rattle.lot_load.specs.Known.{KnowsDeclared, KnowsEach, KnowsPair, KnowsPlain, KnowsStanding, KnowsTouched, Learns, said_by}
 use Rattle.lot_load.proofs.LearnLemmas.{both_stay, declared_stays, each_stays, learns_as, learns_both, pair_stays, standing_stays}
 use Rattle.lot_view.specs.declared.touched.Touched.{Touched}
@@ -46,3 +47,16 @@ returns-clause-teaches g c =
     learns_as (λ book known. pqr book known × s book known) (KnowsTouched touched) (said_by entries) v0 v4
     (λ _ part knows. (knows.0.0.0, knows.0.0.1, knows.0.1, knows.1))
     (learns_both pqr s (said_by entries) v0 v3 v4 (both_stay pq r (both_stay p q stays_p stays_q) stays_r) was own))
+
+pub returns-clause-paired : goal.returns-clause-paired
+returns-clause-paired g c clean =
+    let s0 = g.D.Queryable.shown c.args.conn.now in
+    let s1 = g.D.Queryable.shown c.learn_accounts.new.conn in
+    let s2 = g.D.Queryable.shown c.learn_commodities.new.conn in
+    let s3 = g.D.Queryable.shown c.learn_pairs.new.conn in
+    let s4 = g.D.Queryable.shown c.learn_all_plain.new.conn in
+    let at3 = early s3 s4 c.learn_all_plain.ensures.teaches.crash clean in
+    let at2 = early s2 s3 c.in_ok-learn_pairs.ensures.teaches.crash at3 in
+    let at1 = early s1 s2 c.in_ok-learn_commodities.ensures.teaches.crash at2 in
+    let same = same_then s0 s1 s2 (c.in_ok-learn_accounts.ensures.teaches.same at1) (c.in_ok-learn_commodities.ensures.teaches.same at2) in
+    if_ok c.learn_all_plain.result (λ tables has. c.in_ok-learn_pairs.ensures.paired at3 tables (has_still s0 s2 tables same has))

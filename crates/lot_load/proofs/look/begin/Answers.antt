@@ -11,4 +11,4 @@ returns-in_ok-count-in-None-clause-tells g c =
     let count : ℕ = c.in_ok-count-in-None.field-0 in
     tells _ old new c.new.result
     (reads_first _ _ _ (λ entries. IsOf c.args.kept entries → Keeps c.new.result entries) old new count c.in_ok-count-in-None.ensures.tells
-    (λ tables entries book stand good is of. c.new.ensures entries (is entries book stand)))
+    (λ tables entries book stand good is of. c.new.ensures.keeps entries (is entries book stand)))

@@ -6,7 +6,8 @@ use Rattle.lot_view.specs.View.{known_with_openings}
 use Rattle.lot_load.proofs.ReadLemmas.{reads_first, reads_next, tells_last}
 use Rattle.lot_load.specs.Known.{KnowsAt, KnowsHead, KnowsLots, KnowsPair, Learns, said_by}
 use Rattle.lot_load.proofs.LearnLemmas.{both_stay, head_stays, learns_as, learns_both, lots_stay, pair_known}
-use Rattle.lot_load.proofs.ReadLemmas.{HasRead}
+use Rattle.lot_load.proofs.ReadLemmas.{HasRead, if_ok}
+use Rattle.lot_rows.proofs.StateLemmas.{early, has_still}
 use Rattle.lot_load.proofs.pair.learn_pair.Goals as goal
 
 pub returns-clause-teaches : goal.returns-clause-teaches
@@ -39,3 +40,15 @@ returns-clause-teaches g c =
     (λ _ part knows. pair_known pair (facts_in entries) e.facts knows.0.0 knows.0.1 knows.1)
     (learns_both both plain (said_by entries) a d e
     (both_stay head lots (head_stays pair.account pair.commodity) (lots_stay pair.account pair.commodity)) was own))
+
+pub returns-clause-paired : goal.returns-clause-paired
+returns-clause-paired g c clean =
+    let first = g.D.Queryable.shown c.args.conn.now in
+    let second = g.D.Queryable.shown c.learn_head.new.conn in
+    let third = g.D.Queryable.shown c.learn_lots.new.conn in
+    let last = g.D.Queryable.shown c.learn_units.new.conn in
+    let before = early third last c.learn_units.ensures.teaches.crash clean in
+    let head = c.in_ok-learn_head.ensures.teaches in
+    if_ok c.learn_units.result (λ tables has.
+    c.in_ok-learn_lots.ensures.paired before tables
+    (has_still first second tables (head.same (early second third c.in_ok-learn_lots.ensures.teaches.crash before)) has))

@@ -1,10 +1,12 @@
 -- One more is known; at the end all are.
 use Rattle.std.specs.Prelude.{◌≡◌, List, [], ◌∷◌}
-use Rattle.std.proofs.Common.{subst, ◌∙◌}
+use Rattle.std.proofs.Common.{subst, sym, ◌∙◌}
 use Rattle.lot_book.specs.declared.change.Pair.{Pair}
 use Rattle.lot_load.specs.Known.{KnowsPair, said_by}
+use Rattle.lot_load.specs.Paired.{HaveAllPaired}
 use Rattle.lot_load.proofs.LearnLemmas.{IsLeft, pair_stays, left_more, left_none}
 use Rattle.lot_load.proofs.ReadLemmas.{reads_as, reads_next, tells}
+use Rattle.lot_rows.proofs.StateLemmas.{early, has_still}
 use Rattle.lot_view.specs.View.{known_with_openings}
 use Rattle.lot_load.proofs.pair.learn_pairs.Goals as goal
 
@@ -25,6 +27,10 @@ loop-pair-preserved g c =
           left_more KnowsPair pair_stays keys rest key (said_by entries) (known_with_openings c.args.view.now) (known_with_openings c.loop-pair.view) (known_with_openings c.learn_pair.new.view)
           (subst (λ (l : List Pair). IsLeft KnowsPair keys l (said_by entries) (known_with_openings c.args.view.now) (known_with_openings c.loop-pair.view)) turn was)
           (says entries book stand)),
+      λ clean tables has paired.
+          let before = early mid new c.in_ok-learn_pair.ensures.teaches.crash clean in
+          let own = c.in_ok-learn_pair.ensures.paired clean tables (has_still first mid tables (c.loop-pair.invariant.1.same before) has) in
+          c.loop-pair.invariant.2 before tables has (subst (λ (l : List Pair). HaveAllPaired l tables) (sym turn) (own, paired)),
     )
 
 pub returns-clause-teaches : goal.returns-clause-teaches
@@ -39,3 +45,9 @@ returns-clause-teaches g c =
     (λ tables entries book stand was.
     left_none KnowsPair keys (said_by entries) (known_with_openings c.args.view.now) (known_with_openings c.loop-pair.view)
     (subst (λ (l : List Pair). IsLeft KnowsPair keys l (said_by entries) (known_with_openings c.args.view.now) (known_with_openings c.loop-pair.view)) none was)))
+
+pub returns-clause-paired : goal.returns-clause-paired
+returns-clause-paired g c clean tables has =
+    let left : List Pair = c.loop-pair.pair-iterator in
+    let none : left ≡ [] = c.in-None.ensures.steps.0 in
+    c.loop-pair.invariant.2 clean tables has (subst (λ (l : List Pair). HaveAllPaired l tables) (sym none) tt)

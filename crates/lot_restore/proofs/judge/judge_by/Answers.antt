@@ -118,5 +118,5 @@ returns-in_ok-enter-in-Ok-Accept-clause-judges g c =
     (accepts_by c.args.edition (IsOf c.args.kept.now) (Keeps looked) c.args.key.now c.args.command.now (seen_with_openings looked) old mid c.requires.inside read.same looks
     read.crash c.what_edition_1_accepts_stands_for_the_book.ensures c.what_is_written_stands_for_the_book.ensures c.in-Ok-Accept.change c.deref.result.now are comes made.ordered
     c.is_sayable.ensures (rw c.deref.ensures.value made.good) c.entries.result (c.entries.ensures ∙ ap (λ (v : View). (known v).entries) c.view-in-Ok-Accept-2.ensures) new (IsOf (result_ok c.record.result))
-    (kept_behind c.args.edition looked c.args.key.now c.args.command.now c.in-Ok-Accept.change c.record.result c.record.ensures comes)
+    (kept_behind c.args.edition looked c.args.key.now c.args.command.now c.in-Ok-Accept.change c.record.result c.record.ensures.keeps comes)
     c.in_ok-enter-in-Ok-Accept.ensures.enters)

@@ -16,6 +16,7 @@ use Rattle.lot_store.proofs.ByTextLemmas.{has_along, turns_accepted}
 use Rattle.lot_store.proofs.CommitLemmas.{of_damaged, of_device}
 use Rattle.lot_store.proofs.DamageLemmas.{looked_at}
 use Rattle.lot_store.proofs.KeptLemmas.{accepted_on, comes_on, kept_then, stops_on, writes_on}
+use Rattle.lot_store.proofs.PairedLemmas.{none_whole, whole_recorded}
 use Rattle.lot_store.proofs.book.apply_to.Goals as goal
 
 pub writes-requires : goal.writes-requires
@@ -101,7 +102,7 @@ returns-in_ok-commit-in-Ok-Accept-clause-applies g c =
     c.is_sayable.ensures (rw c.deref.ensures.value made.good) old mid new read.same looks
     (λ clean opened. c.is_autocommit-settled.ensures.settled (rw c.is_autocommit-settled.ensures.value (ap not (c.requires.outside (omega (arith, clean, read.crash.clean))))) opened)
     read.crash
-    (IsOf (result_ok c.record.result)) (kept_then looked c.args.key.now c.args.command.now c.in-Ok-Accept.change c.record.result c.record.ensures comes)
+    (IsOf (result_ok c.record.result)) (kept_then looked c.args.key.now c.args.command.now c.in-Ok-Accept.change c.record.result c.record.ensures.keeps comes)
     c.in_ok-commit-in-Ok-Accept.ensures.done c.in_ok-commit-in-Ok-Accept.ensures.crash)
 
 pub returns-in_err-writes-in-Ok-Accept-clause-device : goal.returns-in_err-writes-in-Ok-Accept-clause-device
@@ -207,3 +208,69 @@ returns-in-Err-Refused-clause-text g c clean tables has =
       ),
       has_along (state g.S.Store c.args.conn.now) (state g.S.Store c.look_on.new.conn) tables (c.in_ok-looked.ensures.looks.same clean).0.now_is has,
     )
+
+-- ---- lots and their opening numbers
+
+pub returns-in_err-looked-clause-unpaired : goal.returns-in_err-looked-clause-unpaired
+returns-in_err-looked-clause-unpaired g c clean tables has unpaired =
+    let fault = err_from_is_err_and c.from_residual.result c.from_residual.ensures.1 in
+    looked_at c.in_err-looked.field-0.0 (state g.S.Store c.args.conn.now) (state g.S.Store c.look_on.new.conn) c.from_residual.result (fault.1 ∙ ap Err fault.2)
+    (λ is. c.in_err-looked.ensures.looks.device clean (ap Err is))
+
+pub returns-in_err-writes-in-Ok-Accept-clause-unpaired : goal.returns-in_err-writes-in-Ok-Accept-clause-unpaired
+returns-in_err-writes-in-Ok-Accept-clause-unpaired g c clean tables has unpaired =
+    absurd (unpaired ((rw c.take.ensures.value at c.in_ok-looked.ensures.paired) clean tables has))
+
+pub returns-in_err-commit-in-Ok-Accept-clause-unpaired : goal.returns-in_err-commit-in-Ok-Accept-clause-unpaired
+returns-in_err-commit-in-Ok-Accept-clause-unpaired g c clean tables has unpaired =
+    absurd (unpaired ((rw c.take.ensures.value at c.in_ok-looked.ensures.paired) (omega (arith, clean, c.in_err-commit-in-Ok-Accept.ensures.crash.clean)) tables has))
+
+pub returns-in_ok-commit-in-Ok-Accept-clause-unpaired : goal.returns-in_ok-commit-in-Ok-Accept-clause-unpaired
+returns-in_ok-commit-in-Ok-Accept-clause-unpaired g c clean tables has unpaired =
+    absurd (unpaired ((rw c.take.ensures.value at c.in_ok-looked.ensures.paired) (omega (arith, clean, c.in_ok-commit-in-Ok-Accept.ensures.crash.clean)) tables has))
+
+pub returns-in-Ok-Repeat-clause-unpaired : goal.returns-in-Ok-Repeat-clause-unpaired
+returns-in-Ok-Repeat-clause-unpaired g c clean tables has unpaired =
+    absurd (unpaired ((rw c.take.ensures.value at c.in_ok-looked.ensures.paired) clean tables has))
+
+pub returns-in-Err-Refused-clause-unpaired : goal.returns-in-Err-Refused-clause-unpaired
+returns-in-Err-Refused-clause-unpaired g c clean tables has unpaired =
+    absurd (unpaired ((rw c.take.ensures.value at c.in_ok-looked.ensures.paired) clean tables has))
+
+pub returns-in-Err-Memory-clause-unpaired : goal.returns-in-Err-Memory-clause-unpaired
+returns-in-Err-Memory-clause-unpaired g c clean tables has unpaired =
+    absurd (unpaired ((rw c.take.ensures.value at c.in_ok-looked.ensures.paired) clean tables has))
+
+pub returns-in_ok-commit-in-Ok-Accept-clause-paired : goal.returns-in_ok-commit-in-Ok-Accept-clause-paired
+returns-in_ok-commit-in-Ok-Accept-clause-paired g c clean tables has =
+    (rw c.take.ensures.value at c.in_ok-looked.ensures.paired) (omega (arith, clean, c.in_ok-commit-in-Ok-Accept.ensures.crash.clean)) tables has
+
+pub returns-in-Ok-Repeat-clause-paired : goal.returns-in-Ok-Repeat-clause-paired
+returns-in-Ok-Repeat-clause-paired g c clean tables has = (rw c.take.ensures.value at c.in_ok-looked.ensures.paired) clean tables has
+
+pub returns-in-Err-Refused-clause-paired : goal.returns-in-Err-Refused-clause-paired
+returns-in-Err-Refused-clause-paired g c clean tables has = (rw c.take.ensures.value at c.in_ok-looked.ensures.paired) clean tables has
+
+pub returns-in_err-looked-clause-whole : goal.returns-in_err-looked-clause-whole
+returns-in_err-looked-clause-whole g c clean tables has = none_whole c.args.kept.now tables c.take.new.self c.take.ensures.after
+
+pub returns-in_err-writes-in-Ok-Accept-clause-whole : goal.returns-in_err-writes-in-Ok-Accept-clause-whole
+returns-in_err-writes-in-Ok-Accept-clause-whole g c clean tables has = none_whole c.args.kept.now tables c.take.new.self c.take.ensures.after
+
+pub returns-in_err-commit-in-Ok-Accept-clause-whole : goal.returns-in_err-commit-in-Ok-Accept-clause-whole
+returns-in_err-commit-in-Ok-Accept-clause-whole g c clean tables has = none_whole c.args.kept.now tables c.take.new.self c.take.ensures.after
+
+pub returns-in_ok-commit-in-Ok-Accept-clause-whole : goal.returns-in_ok-commit-in-Ok-Accept-clause-whole
+returns-in_ok-commit-in-Ok-Accept-clause-whole g c clean tables has =
+    rw c.ok.ensures.value
+    (whole_recorded c.args.kept.now c.in_ok-looked.looked tables c.record.result c.record.ensures.whole
+    ((rw c.take.ensures.value at c.in_ok-looked.ensures.whole) (omega (arith, clean, c.in_ok-commit-in-Ok-Accept.ensures.crash.clean)) tables has))
+
+pub returns-in-Ok-Repeat-clause-whole : goal.returns-in-Ok-Repeat-clause-whole
+returns-in-Ok-Repeat-clause-whole g c clean tables has = (rw c.take.ensures.value at c.in_ok-looked.ensures.whole) clean tables has
+
+pub returns-in-Err-Refused-clause-whole : goal.returns-in-Err-Refused-clause-whole
+returns-in-Err-Refused-clause-whole g c clean tables has = (rw c.take.ensures.value at c.in_ok-looked.ensures.whole) clean tables has
+
+pub returns-in-Err-Memory-clause-whole : goal.returns-in-Err-Memory-clause-whole
+returns-in-Err-Memory-clause-whole g c clean tables has = none_whole c.args.kept.now tables c.take.new.self c.take.ensures.after

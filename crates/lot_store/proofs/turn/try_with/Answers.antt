@@ -22,3 +22,9 @@ returns-in-None-clause-tells g c =
     subst (λ (v : View). DecidesUnder (ties_on (known_with_openings v)) (known v) c.args.other judged.0) c.view.ensures judged.1 in
     says_passed c.args.kept c.args.key.now c.args.other c.in_ok-looked.looked (g.D.Queryable.shown c.args.conn.now) (g.D.Queryable.shown c.look_on.new.conn)
     c.in_ok-looked.ensures.looks judged.0 decides _ (sym judged.2 ∙ c.in-None.is) refl
+
+pub returns-in-Some-clause-whole : goal.returns-in-Some-clause-whole
+returns-in-Some-clause-whole g c = c.in_ok-looked.ensures.whole
+
+pub returns-in-None-clause-whole : goal.returns-in-None-clause-whole
+returns-in-None-clause-whole g c = c.in_ok-looked.ensures.whole

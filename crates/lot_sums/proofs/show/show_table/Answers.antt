@@ -16,6 +16,11 @@ returns-in_err-gather-clause-shows g c =
     let (all, are, gathers) = c.in_err-gather.ensures.gathers terms fresh tell same clean asked entries has in
     (all, are, nothing_shown (g.T.Tally.fits terms) (g.T.Tally.HasTaken terms) (g.T.Tally.AreLines terms) (map tell all) _ c.gather.new.tally c.in_err-gather.field-0.0 gathers))
 
+pub returns-in_err-gather-clause-keeps : goal.returns-in_err-gather-clause-keeps
+returns-in_err-gather-clause-keeps g c =
+    let fault = err_from_is_err_and c.from_residual.result c.from_residual.ensures.1 in
+    rw fault.1 (λ terms fresh tell same clean asked entries has. tt)
+
 pub returns-in_err-gather-clause-some : goal.returns-in_err-gather-clause-some
 returns-in_err-gather-clause-some g c =
     let fault = err_from_is_err_and c.from_residual.result c.from_residual.ensures.1 in
@@ -53,6 +58,11 @@ returns-in_err-print-clause-shows g c =
           (c.in_err-print.ensures.lines terms (map tell all) taken),
     ))
 
+pub returns-in_err-print-clause-keeps : goal.returns-in_err-print-clause-keeps
+returns-in_err-print-clause-keeps g c =
+    let fault = err_from_is_err_and c.from_residual-in_err-print.result c.from_residual-in_err-print.ensures.1 in
+    rw fault.1 (λ terms fresh tell same clean asked entries has. tt)
+
 pub returns-in_err-print-clause-some : goal.returns-in_err-print-clause-some
 returns-in_err-print-clause-some g c =
     let fault = err_from_is_err_and c.from_residual-in_err-print.result c.from_residual-in_err-print.ensures.1 in
@@ -89,6 +99,10 @@ returns-clause-shows g c = λ terms fresh tell same clean asked entries has.
       all_shown (g.T.Tally.fits terms) (g.T.Tally.HasTaken terms) (g.T.Tally.AreLines terms) (map tell all) _ _ fit _
           (c.in_ok-print.ensures.lines terms (map tell all) taken),
     )
+
+pub returns-clause-keeps : goal.returns-clause-keeps
+returns-clause-keeps g c = λ terms fresh tell same clean asked entries has.
+    let (all, are, (fit, taken)) = c.in_ok-gather.ensures.gathers terms fresh tell same clean asked entries has in (all, are, taken)
 
 pub returns-clause-some : goal.returns-clause-some
 returns-clause-some g c = λ terms fresh.

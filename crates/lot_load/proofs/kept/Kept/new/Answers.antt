@@ -7,8 +7,8 @@ use Rattle.lot_load.proofs.KeptLemmas.{nothing_is_part, nothing_opened, nothing_
 use Rattle.lot_view.specs.View.{known, known_with_openings}
 use Rattle.lot_load.proofs.kept.Kept.new.Goals as goal
 
-pub returns : goal.returns
-returns c book counted = record {
+pub returns-clause-keeps : goal.returns-clause-keeps
+returns-clause-keeps c book counted = record {
   count = ap (λ (f : Facts). f.entries) c.new-5.ensures ∙ counted;
   part = subst (IsPart (facts_in book)) (sym c.new-5.ensures) (nothing_is_part (facts_in book) c.args.entries);
   openings = nothing_opened (said_by book) (known_with_openings c.new-5.result) c.args.entries c.new-5.ensures;

@@ -10,8 +10,8 @@ use Rattle.lot_load.proofs.RecordLemmas.{recorded_count, recorded_openings, reco
 use Rattle.lot_view.specs.View.{known_with_openings}
 use Rattle.lot_load.proofs.kept.Kept.record.Goals as goal
 
-pub returns : goal.returns
-returns c edition entries key book keeps agrees comes =
+pub returns-clause-keeps : goal.returns-clause-keeps
+returns-clause-keeps c edition entries key book keeps agrees comes =
     let command = c.args.command.now in
     let change = c.args.change.now in
     let facts = seen_with_openings c.args.self in

@@ -3,7 +3,6 @@ use Rattle.std.specs.Option.{option_copied}
 use Rattle.sqlite.specs.Held.{state}
 use Rattle.lot_command.specs.declared.command.Command.{Command}
 use Rattle.lot_command.specs.declared.key.Key.{Key}
-use Rattle.lot_load.specs.Kept.{IsOf}
 use Rattle.lot_io.specs.Writes.{AllFlushed, IsFlushed}
 use Rattle.lot_store.specs.declared.book.Condition.TheVariants.{Ready}
 use Rattle.lot_store.proofs.RunLemmas.{Any, SoFar}
@@ -14,7 +13,7 @@ use Rattle.lot_store.proofs.book.Book.run.Given as goal
 abbrev pub invariant-commands : goal.invariant-commands
 invariant-commands g l =
     (done : List (Key × Command)) × (l.index ≡ length done)
-    × SoFar (IsOf l.kept) Any (option_copied l.fn.rounding) (take l.index l.commands) done l.fn.from l.refused (state g.S.Store l.fn.self.conn) (state g.S.Store l.self.conn) (g.W.CountedWrite.contents l.initial.writer) (g.W.CountedWrite.contents l.writer)
+    × SoFar l.kept Any (option_copied l.fn.rounding) (take l.index l.commands) done l.fn.from l.refused (state g.S.Store l.fn.self.conn) (state g.S.Store l.self.conn) (g.W.CountedWrite.contents l.initial.writer) (g.W.CountedWrite.contents l.writer)
     × (l.self.condition ≡ Ready)
     × (IsFlushed (g.W.CountedWrite.calls l.initial.writer)
     → AllFlushed (record { before = g.W.CountedWrite.calls l.initial.writer; after = g.W.CountedWrite.calls l.writer }))

@@ -1,0 +1,3 @@
+pub mod Days
+pub mod Legs
+pub mod Place

@@ -1,0 +1,5 @@
+pub mod BareLemmas
+pub mod DayLemmas
+pub mod HeadLemmas
+pub mod KeyLemmas
+pub mod SumLemmas

@@ -1,0 +1,4 @@
+pub mod SumLemmas
+pub mod KeepLemmas
+pub mod RowLemmas
+pub mod LawLemmas

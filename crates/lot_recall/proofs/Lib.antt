@@ -1,0 +1,9 @@
+pub mod EntryLemmas
+pub mod FewLegLemmas
+pub mod FewLemmas
+pub mod FindLemmas
+pub mod FirstLemmas
+pub mod LookLemmas
+pub mod PlaceLemmas
+pub mod RecallLemmas
+pub mod SaidLemmas

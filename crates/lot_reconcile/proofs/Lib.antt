@@ -1,0 +1,5 @@
+mod BalanceLemmas
+mod FindLemmas
+mod LawLemmas
+mod TableLemmas
+mod TextLemmas

@@ -1,0 +1,3 @@
+pub mod LeftLemmas
+pub mod RowLemmas
+pub mod TextLemmas

@@ -1,0 +1,3 @@
+mod HeaderLemmas
+pub mod LineLemmas
+mod StatementLemmas
