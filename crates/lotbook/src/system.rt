@@ -2,6 +2,7 @@
 
 ghost use Rattle.std.specs.Prelude.{◌≡◌};
 ghost use Rattle.sqlite.specs.Files.{file_state};
+ghost use Rattle.lot_args.specs.Preview.{preview_of};
 ghost use Rattle.lotbook.specs.Answered.{IsAnswered};
 ghost use Rattle.lotbook.specs.Statuses.{IsCompared, IsRefusal, IsSaid};
 ghost use Rattle.lot_files.specs.Opened.{IsOverMemory, IsOverSystem, IsReady};
@@ -90,8 +91,9 @@ impl<'a> Host for System<'a> {
 
     ghost refuses = { λ _ _. Unit {0} };
 
-    ghost serves = { λ action opened status left.
-        IsAnswered (λ conn. file_state conn) action opened.conn left.conn status };
+    ghost serves = { λ action effect opened status left.
+        IsAnswered (λ conn. file_state conn) action (preview_of effect)
+        opened.conn left.conn status };
 
     ghost is_old = { λ _ _. Unit {0} };
 
