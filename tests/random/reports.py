@@ -4,8 +4,8 @@
 
 The plain reports are written from docs/FORMATS.md and docs/RULES.md alone, over the entries of the plain judge: each looks over
 all entries of the book. Each ledger is posted to a new book, in two calls, of which the second finds in the file what the first one
-left, and before it a dry run of the same tells what it would gain and leave; then its holdings, with and without days, those of past
-days, its gains, whole and in ranges, and its journal are compared, byte for byte, and the opening number of each lot in the tables. A case is the ledgers of a hundred seeds, or a kind of row, which has
+left; then its holdings, with and without days, those of past days, its gains, whole and in ranges, and its journal are compared,
+byte for byte, and the opening number of each lot in the tables. A case is the ledgers of a hundred seeds, or a kind of row, which has
 to occur at least some times. A difference goes to standard error, with its seed.
 """
 
@@ -42,8 +42,6 @@ KINDS = (
     "an entry of Opening", "an entry of Closing", "an entry of Declaring", "an entry of Quoting", "an entry of Transaction",
     "a refused command before an entry", "lots of one day in another order than that of their openings",
     "a past day", "a past day with an entry behind a later one",
-    "a dry run with sales behind earlier ones", "a dry run with sales", "a dry run without a sale", "a dry run that tells what it would leave",
-    "a dry run with a refusal", "a dry run with a refusal that keeps all or none",
 )
 
 
@@ -295,28 +293,6 @@ def asked(rng, book):
     return rng.sample([rng.choice(days), rng.choice(days), FIRST_DAY, LAST_DAY], 2), rng.sample(ranges, 3)
 
 
-def told(rng, drawing, at, seen):
-    """Options of a dry run of what is behind the first commands, and what it prints: the replies, and of the book that it would leave the
-    gains of the entries that it would add, and what is held."""
-    options = rng.choice((["--gains"], ["--holdings"], ["--gains", "--holdings"])) + rng.choice(([], [], ["--all-or-none"]))
-    lines = [model.reply(number, it.refused) for number, it in enumerate(drawing.judged, 1)][at:]
-    refused = any(it.refused is not None for it in drawing.judged[at:])
-    before = sum(it.entry is not None for it in drawing.judged[:at])
-    left = drawing.book[:before] if refused and "--all-or-none" in options else drawing.book
-    if "--gains" in options:
-        added = gains(left[before:], FIRST_DAY, LAST_DAY, collections.Counter())
-        seen["a dry run without a sale" if added == ["no gains"] else "a dry run with sales"] += 1
-        earlier = any(booked.reduces for entry in left[:before] for booked in entry.booked)
-        seen["a dry run with sales behind earlier ones"] += earlier and added != ["no gains"]
-        lines += added
-    if "--holdings" in options:
-        lines += holdings(left, None, collections.Counter())
-        seen["a dry run that tells what it would leave"] += 1
-    seen["a dry run with a refusal"] += refused
-    seen["a dry run with a refusal that keeps all or none"] += refused and "--all-or-none" in options
-    return options, lines, int(refused)
-
-
 def compare(program, scratch, seed):
     """How the reports of a drawn ledger differ, or nothing; and what occurs in them, each kind once."""
     drawing = draw.small(seed)
@@ -328,11 +304,7 @@ def compare(program, scratch, seed):
     book = os.path.join(scratch, f"drawn-{seed}.book")
     call(program, ["init", "--book", book])
     calls = (["--from", "1"], begun), (["--from", str(at + 1)], text)
-    post = ["post", "--book", book, "--batch", "r"]
-    posted = [call(program, post + calls[0][0], calls[0][1])]
-    options, would, status = told(random.Random(f"told {seed}"), drawing, at, seen)
-    tried = call(program, [*post, *calls[1][0], "--dry-run", *options], text)
-    posted.append(call(program, post + calls[1][0], calls[1][1]))
+    posted = [call(program, ["post", "--book", book, "--batch", "r", *words], part) for words, part in calls]
     replies, messages = ("".join(answer[which] for answer in posted) for which in (0, 2))
     wanted = [model.reply(number, it.refused) for number, it in enumerate(drawing.judged, 1)]
     cases = [(["post"], wanted, (replies, 0, messages))]
@@ -351,9 +323,6 @@ def compare(program, scratch, seed):
     cases.append((["the table opening"], openings(drawing.book, seen), (numbers, 0, "")))
     tables.removed(book)
     found = ""
-    report = "".join(line + "\n" for line in would)
-    if tried != (report, status, ""):
-        found += f"--- post --from {at + 1} --dry-run {' '.join(options)}, wanted\n{report}--- got, status {tried[1]}\n{tried[0]}{tried[2]}"
     for words, lines, got in cases:
         report = "".join(line + "\n" for line in lines)
         if got != (report, 4 if lines == [BEYOND] else 0, ""):

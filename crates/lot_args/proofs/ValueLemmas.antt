@@ -18,7 +18,7 @@ use Rattle.lot_args.specs.Options.{account_options, except_of, first_bad, is_goo
 use Rattle.lot_args.specs.Rounding.{as_bound, decimals_at, named_bound}
 use Rattle.lot_args.specs.Start.{IsStart, greatest_start, is_start, start_at}
 use Rattle.lot_args.specs.declared.fault.BadOption.{BadOption}
-use Rattle.lot_args.specs.declared.fault.BadOption.TheVariants.{Batch, Except, From, Holdings, KeepAccepted, Sales, Show}
+use Rattle.lot_args.specs.declared.fault.BadOption.TheVariants.{Batch, Except, From, KeepAccepted, Show}
 
 -- ---- the start
 
@@ -116,11 +116,8 @@ good_alone rows option e = go (is_good rows option) refl
     go false is = let bad : Some option ≡ None = rw is at e in cc
 
 -- what an import's options are, of which none is bad
-abbrev behind_rounding : List BadOption
-behind_rounding = Sales ∷ Holdings ∷ From ∷ []
-
 abbrev behind_accounts : List BadOption
-behind_accounts = Except ∷ (rounding_options ++ behind_rounding)
+behind_accounts = Except ∷ (rounding_options ++ From ∷ [])
 
 module _ (rows : List Row) (good : first_bad rows (options_of (codes "import")) ≡ None) where
   from_accounts : (first_bad rows account_options ≡ None) × (first_bad rows behind_accounts ≡ None)
@@ -131,12 +128,12 @@ module _ (rows : List Row) (good : first_bad rows (options_of (codes "import")) 
   good_accounts = from_accounts.0
 
   pub good_except : IsTrue (list_all is_label (except_of rows))
-  good_except = good_alone rows Except (none_of_both rows (Except ∷ []) (rounding_options ++ behind_rounding) from_accounts.1).0
+  good_except = good_alone rows Except (none_of_both rows (Except ∷ []) (rounding_options ++ From ∷ []) from_accounts.1).0
 
   pub good_rounding : first_bad rows rounding_options ≡ None
   good_rounding =
-      (none_of_both rows rounding_options behind_rounding
-      (none_of_both rows (Except ∷ []) (rounding_options ++ behind_rounding) from_accounts.1).1).0
+      (none_of_both rows rounding_options (From ∷ [])
+      (none_of_both rows (Except ∷ []) (rounding_options ++ From ∷ []) from_accounts.1).1).0
 
 -- the option at a place, and those from there on
 pub bad_here : (rows : List Row) (options : List BadOption) (i : ℕ) (none : BadOption) → i < length options

@@ -194,9 +194,6 @@ fn show_form(rt: &HostRuntime, words: &[String], option: BadOption) {
 fn pair(words: &[String], option: BadOption) -> Option<&'static str> {
     let has_row = value_of(words, "row-of").is_some();
     let has_rounding = value_of(words, "rounding").is_some();
-    if let Some(alone) = without_dry_run(option) {
-        return Some(alone);
-    }
     if value_of(words, "profile").is_some() {
         return beside_profile(option);
     }
@@ -218,20 +215,6 @@ fn pair(words: &[String], option: BadOption) -> Option<&'static str> {
             Some(
                 "--decimals stands beside --rounding alone, as in --rounding Equity:R --decimals 2",
             )
-        }
-        _ => None,
-    }
-}
-
-/// Returns what is to be said of an option that stands beside `--dry-run` alone.
-fn without_dry_run(option: BadOption) -> Option<&'static str> {
-    match option {
-        BadOption::PostGains => {
-            Some("--gains stands beside --dry-run alone, as in --dry-run --gains")
-        }
-        BadOption::Sales => Some("--sales stands beside --dry-run alone, as in --dry-run --sales"),
-        BadOption::Holdings => {
-            Some("--holdings stands beside --dry-run alone, as in --dry-run --holdings")
         }
         _ => None,
     }
@@ -261,7 +244,6 @@ fn beside_profile(option: BadOption) -> Option<&'static str> {
 fn form(option: BadOption) -> &'static str {
     match option {
         BadOption::Show | BadOption::KeepAccepted => "--profile beside it",
-        BadOption::PostGains | BadOption::Sales | BadOption::Holdings => "--dry-run beside it",
         BadOption::Batch => "1 to 32 letters, digits, '.', '_' or '-', as in --batch broker",
         BadOption::PostBatch => "1 to 32 letters, digits, '.', '_' or '-', as in --batch 2024",
         BadOption::RowOf => "the batch of a broker file, as in --row-of broker --ref A17",

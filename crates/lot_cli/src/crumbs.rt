@@ -150,8 +150,8 @@ fn show_behind<W: CountedWrite, S: Alter>(
     }
 }
 
-/// Returns the status of commands, unless a report behind them couldn't be written.
-pub(crate) fn status_behind(posted: u8, shown: u8) -> u8
+/// Returns the status of commands, unless the holdings behind them couldn't be written.
+fn status_behind(posted: u8, shown: u8) -> u8
     ensures { result ≡ status_behind posted shown }
 {
     if shown == 0 { posted } else { shown }

@@ -34,25 +34,25 @@ module _ {H : Type 0} {D O : Type 0} (g : Ghosts H D O) where
   EndsWith (Some old) served left status =
       ((served ≤ 1) × g.compares served left old status) ⊎ ((1 < served) × (status ≡ served))
 
-  -- What an action comes to on a database, beside an old book where there is one: it is done there, that is told of what is left
-  -- which the effect asks for, and the status is what that comes to.
-  pub record ComesTo (action : Action) (effect : Effect) (old : Option O) (database : D) (status : ℕ) : Type 0 where
+  -- What an action comes to on a database, beside an old book where there is one: it is done there, and the status is what that comes
+  -- to.
+  pub record ComesTo (action : Action) (old : Option O) (database : D) (status : ℕ) : Type 0 where
     pub left : D
     pub served : ℕ
-    pub serves : g.serves action effect database served left
+    pub serves : g.serves action database served left
     pub ends : EndsWith old served left status
 
   -- an action comes to that on an empty database
-  pub record ComesToOfNothing (action : Action) (effect : Effect) (old : Option O) (status : ℕ) : Type 0 where
+  pub record ComesToOfNothing (action : Action) (old : Option O) (status : ℕ) : Type 0 where
     pub database : D
     pub empty : g.is_empty database
-    pub comes_to : ComesTo action effect old database status
+    pub comes_to : ComesTo action old database status
 
   -- an action comes to that on the database of a path
   pub record ComesToOfPath (action : Action) (effect : Effect) (path : List ℕ) (old : Option O) (status : ℕ) : Type 0 where
     pub database : D
     pub of_path : IsOfPath action effect path database
-    pub comes_to : ComesTo action effect old database status
+    pub comes_to : ComesTo action old database status
 
   -- the action is done on its own database, beside its old book
   pub record IsServed (action : Action) (effect : Effect) (status : ℕ) : Type 0 where
@@ -60,7 +60,7 @@ module _ {H : Type 0} {D O : Type 0} (g : Ghosts H D O) where
     pub old : Option O
     pub its_own : IsItsOwn (path_of action) action effect database
     pub its_old : IsItsOld (old_of action) old
-    pub comes_to : ComesTo action effect old database status
+    pub comes_to : ComesTo action old database status
 
   -- the database of its path can't be opened, or no empty one
   pub record IsNotOpened (action : Action) (status : ℕ) : Type 0 where

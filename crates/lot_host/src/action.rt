@@ -50,7 +50,7 @@ fn refused<H: Host>(host: &H, task: &Task, path: &str, cause: Cause) -> u8
 
 /// Does the action of a task on an empty database, of which nothing stays.
 fn on_nothing<H: Host>(host: &H, task: &Task, old: Option<H::Old>) -> Result<u8, Cause>
-    ensures served { IfOk result (ComesToOfNothing H.Host task.now.action task.now.effect old) }
+    ensures served { IfOk result (ComesToOfNothing H.Host task.now.action old) }
     ensures fault { IfErr result (H.refuses None) }
 {
     let empty = host.open_nothing()?;
@@ -78,7 +78,7 @@ fn on_path<H: Host>(host: &H, task: &Task, path: &str, old: Option<H::Old>) -> R
 /// beside the file, also where it can't be closed.
 fn on_file<H: Host>(host: &H, task: &Task, file: H::Database, old: Option<H::Old>) -> u8
     requires { H.is_ready file }
-    ensures { ComesTo H.Host task.now.action task.now.effect old file result }
+    ensures { ComesTo H.Host task.now.action old file result }
 {
     let (status, left) = done_on(host, task, file, old);
     if status <= REFUSED {
@@ -90,7 +90,7 @@ fn on_file<H: Host>(host: &H, task: &Task, file: H::Database, old: Option<H::Old
 /// Does the action of a task on a database of which nothing stays.
 fn on_copy<H: Host>(host: &H, task: &Task, copy: H::Database, old: Option<H::Old>) -> u8
     requires { H.is_ready copy }
-    ensures { ComesTo H.Host task.now.action task.now.effect old copy result }
+    ensures { ComesTo H.Host task.now.action old copy result }
 {
     let (status, _left) = done_on(host, task, copy, old);
     status
@@ -105,7 +105,7 @@ fn done_on<H: Host>(
     old: Option<H::Old>,
 ) -> (u8, H::Database)
     requires { H.is_ready database }
-    ensures { ComesTo H.Host task.now.action task.now.effect old database result.0 }
+    ensures { ComesTo H.Host task.now.action old database result.0 }
 {
     let (status, left) = host.serve(task, database);
     match old {

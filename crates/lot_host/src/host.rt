@@ -3,7 +3,6 @@
 ghost use Rattle.std.specs.Prelude.{◌≡◌, ◌≤◌, ℕ, List, Option, None, Some, IfErr, IfOk, IsOk, IsTrue, option_copied};
 ghost use Rattle.std.specs.String.{string_bytes};
 ghost use Rattle.lot_args.specs.declared.action.Action.{Action as ActionOf};
-ghost use Rattle.lot_args.specs.declared.request.Effect.{Effect as EffectOf};
 ghost use Rattle.lot_files.specs.declared.cause.Cause.{Cause as CauseOf};
 ghost use Rattle.lot_files.specs.Path.{library_path};
 ghost use Rattle.lot_host.specs.Answers.{IsStatusOf};
@@ -55,9 +54,8 @@ pub trait Host {
     // The database of that path, or the empty one, can't be opened for that cause.
     ghost refuses: { Option (List ℕ) → CauseOf → Type 0 };
 
-    // The action is done on the first database, and behind it that is told of the second one, which is what is left, that the effect
-    // asks for. The number is the status.
-    ghost serves: { ActionOf → EffectOf → Self.Database → ℕ → Self.Database → Type 0 };
+    // The action is done on the first database. The number is its status, and the second database what is left.
+    ghost serves: { ActionOf → Self.Database → ℕ → Self.Database → Type 0 };
 
     // It is the book in the file of that path.
     ghost is_old: { List ℕ → Self.Old → Type 0 };
@@ -107,10 +105,10 @@ pub trait Host {
         ensures ready { IfOk result is_ready }
         ensures fault { IfErr result (refuses None) };
 
-    /// Does the action of a task on a database, and tells behind it what its effect asks for. Returns the status and the database.
+    /// Does the action of a task on a database, and returns its status and the database.
     fn serve(&self, task: &Task, database: Self::Database) -> (u8, Self::Database)
         requires { is_ready database }
-        ensures { serves task.now.action task.now.effect database result.0 result.1 };
+        ensures { serves task.now.action database result.0 result.1 };
 
     /// Closes the database of a file. What was committed is there in either case.
     fn close(&self, database: Self::Database);

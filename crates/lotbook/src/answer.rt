@@ -3,7 +3,6 @@
 ghost use Rattle.std.specs.Prelude.{◌≡◌, None, false};
 ghost use Rattle.sqlite.specs.Held.{state};
 ghost use Rattle.lot_io.specs.Reader.{reader_of};
-ghost use Rattle.lot_args.specs.Preview.{preview_of};
 ghost use Rattle.lot_call.specs.Looks.{IsLookedAt};
 ghost use Rattle.lotbook.specs.Answered.{IsAnswered, IsServed};
 
@@ -16,7 +15,7 @@ use lot_call::{
 use lot_cli::{
     Action, AdoptFault, Aside, CommandFault, CountedWriter, CreateFault, DumpFault, Export,
     ExportFault, Halt, InputFault, Look, MigrateFault, Progress, RestoreFault, Served, VerifyFault,
-    serve_with_preview,
+    serve,
 };
 use lot_command::Key;
 use lot_completion::{Note, Watch};
@@ -32,8 +31,7 @@ use std::io::{Read, Stdout, Write};
 pub fn answer<S: Alter>(call: &Call<'_>, conn: Connection<S>) -> Served<S>
     requires outside { conn.in_transaction ≡ false }
     requires unlimited { conn.step_limit ≡ None }
-    ensures { IsAnswered (state S.Store) call.now.action.now (preview_of call.now.effect)
-        conn result.conn result.status }
+    ensures { IsAnswered (state S.Store) call.now.action.now conn result.conn result.status }
 {
     let alloc = call.rt.alloc();
     let keep = if call.is_quiet() {
@@ -81,8 +79,7 @@ fn do_quietly<R: Read, W: Write, S: Alter>(
     requires unlimited { conn.step_limit ≡ None }
     ensures { IsServed (state S.Store) (R.remaining (reader_of reader.old.reader))
         (R.remaining (reader_of reader.new.reader))
-        call.now.action.now (preview_of call.now.effect) conn
-        result.conn result.status result.halt }
+        call.now.action.now conn result.conn result.status result.halt }
 {
     let mut output = CountedWriter::new(writer);
     let mut watcher = Watcher {
@@ -90,10 +87,9 @@ fn do_quietly<R: Read, W: Write, S: Alter>(
         legs: Meter::of_legs(call.rt),
         watched,
     };
-    serve_with_preview(
+    serve(
         call.rt.alloc(),
         call.action,
-        call.effect.preview(),
         reader,
         &mut output,
         &mut watcher,

@@ -1,11 +1,11 @@
 //! The system as the host of a call: its files, its streams and its clock.
 
-ghost use Rattle.std.specs.Prelude.{◌≡◌};
+ghost use Rattle.std.specs.Prelude.{◌≡◌, false};
 ghost use Rattle.sqlite.specs.Files.{file_state};
-ghost use Rattle.lot_args.specs.Preview.{preview_of};
 ghost use Rattle.lotbook.specs.Answered.{IsAnswered};
 ghost use Rattle.lotbook.specs.Statuses.{IsCompared, IsRefusal, IsSaid};
 ghost use Rattle.lot_files.specs.Opened.{IsOverMemory, IsOverSystem, IsReady};
+ghost use Rattle.lot_files.specs.Path.{has_long_name};
 ghost use Rattle.lot_host.specs.Answers.{IsTold, stopped};
 
 use crate::answer::answer;
@@ -85,15 +85,14 @@ impl<'a> Host for System<'a> {
 
     ghost is_ready = { λ database. IsReady database.conn };
 
-    ghost is_openable = { λ _. Unit {0} };
+    ghost is_openable = { λ path. has_long_name path ≡ false };
 
     ghost lacks = { λ _. Unit {0} };
 
     ghost refuses = { λ _ _. Unit {0} };
 
-    ghost serves = { λ action effect opened status left.
-        IsAnswered (λ conn. file_state conn) action (preview_of effect)
-        opened.conn left.conn status };
+    ghost serves = { λ action opened status left.
+        IsAnswered (λ conn. file_state conn) action opened.conn left.conn status };
 
     ghost is_old = { λ _ _. Unit {0} };
 
