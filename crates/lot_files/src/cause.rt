@@ -3,8 +3,7 @@
 ghost use Rattle.std.specs.Prelude.{◌≡◌, ◌≢◌};
 ghost use Rattle.lot_files.specs.Cause.{cause_or, copy_cause, library_cause};
 
-use crate::files::is_missing;
-use crate::located::locate;
+use crate::files::{is_missing, locate};
 use sqlite::{Error, ErrorCode};
 use std::alloc::AllocError;
 use std::fmt;
@@ -160,7 +159,7 @@ fn refused(rt: &HostRuntime, path: &str) -> Result<(), Cause> {
     if is_missing(rt, path) {
         open_or_make(rt, path)?;
     }
-    let files = locate(rt, rt.alloc(), path)?;
+    let files = locate(rt, path)?;
     open_or_make(rt, files.book.as_str())?;
     open_or_make(rt, files.log.as_str())
 }
