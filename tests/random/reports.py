@@ -121,22 +121,6 @@ def holdings(book, day, seen, last=None):
     return lines + [f"total value {money(values[currency])} {currency}" for currency in sorted(values)]
 
 
-def unpriced(book, day, last=None):
-    """What standard error says beside these holdings: how many lots have no price, or nothing."""
-    held, count, costs, values = model.Held(up_to(book, last, collections.Counter())), 0, {}, {}
-    if day is None or is_beyond(held):
-        return ""
-    for pair in held.pairs():
-        for key, units in held.lots_of(pair).items():
-            rate = price_at(book, day, pair[1], key.currency, collections.Counter())
-            sums, each = (costs, key.number) if rate is None else (values, rate)
-            sums[key.currency] = sums.get(key.currency, 0) + units * each
-            count += rate is None
-    cost, value = (", ".join(f"{money(sums[currency])} {currency}" for currency in sorted(sums)) for sums in (costs, values))
-    told = f"lotbook: warning: lots without a price in their currency at {day_text(day)}: {count}, total cost {cost}; total value of the others: {value or 'none'}\n"
-    return told if count else ""
-
-
 # Gains.
 
 
@@ -288,7 +272,7 @@ def openings(book, seen):
 
 def call(program, words, text=b""):
     done = subprocess.run([program, *words], input=text, capture_output=True, timeout=600)
-    return done.stdout.decode(), done.returncode, done.stderr.decode()
+    return done.stdout.decode(), done.returncode, notes.without(done.stderr).decode()
 
 
 def quote_more(rng, drawing):
@@ -322,31 +306,27 @@ def compare(program, scratch, seed):
     calls = (["--from", "1"], begun), (["--from", str(at + 1)], text)
     posted = [call(program, ["post", "--book", book, "--batch", "r", *words], part) for words, part in calls]
     replies, messages = ("".join(answer[which] for answer in posted) for which in (0, 2))
-    messages = notes.without(messages.encode()).decode()
     wanted = [model.reply(number, it.refused) for number, it in enumerate(drawing.judged, 1)]
-    cases = [(["post"], wanted, "", (replies, 0, messages))]
+    cases = [(["post"], wanted, (replies, 0, messages))]
     days, ranges = asked(rng, drawing.book)
-    held = [([], None, None), (["--as-of", day_text(days[0]), "--day", day_text(days[1])], days[1], days[0])]
-    for day in days:
-        held += [(["--day", day_text(day)], day, None), (["--as-of", day_text(day)], day, day)]
-    reports = [
-        (["holdings", *options], holdings(drawing.book, day, seen, last), unpriced(drawing.book, day, last))
-        for options, day, last in held
-    ]
-    reports.append((["journal"], journal(drawing.judged, seen), ""))
+    reports = [(["holdings"], holdings(drawing.book, None, seen)), (["journal"], journal(drawing.judged, seen))]
+    reports += [(["holdings", "--day", day_text(day)], holdings(drawing.book, day, seen)) for day in days]
+    reports += [(["holdings", "--as-of", day_text(day)], holdings(drawing.book, day, seen, day)) for day in days]
+    words = ["holdings", "--as-of", day_text(days[0]), "--day", day_text(days[1])]
+    reports.append((words, holdings(drawing.book, days[1], seen, days[0])))
     for first, last in ranges:
-        reports.append((["gains", "--first", day_text(first), "--last", day_text(last)], gains(drawing.book, first, last, seen), ""))
-    reports.append((["gains"], gains(drawing.book, FIRST_DAY, LAST_DAY, seen), ""))
-    for words, lines, told in reports:
-        cases.append((words, lines, told, call(program, [words[0], "--book", book, *words[1:]])))
+        reports.append((["gains", "--first", day_text(first), "--last", day_text(last)], gains(drawing.book, first, last, seen)))
+    reports.append((["gains"], gains(drawing.book, FIRST_DAY, LAST_DAY, seen)))
+    for words, lines in reports:
+        cases.append((words, lines, call(program, [words[0], "--book", book, *words[1:]])))
     numbers = "".join(line + "\n" for line in tables.openings(book))
-    cases.append((["the table opening"], openings(drawing.book, seen), "", (numbers, 0, "")))
+    cases.append((["the table opening"], openings(drawing.book, seen), (numbers, 0, "")))
     tables.removed(book)
     found = ""
-    for words, lines, told, got in cases:
+    for words, lines, got in cases:
         report = "".join(line + "\n" for line in lines)
-        if got != (report, 4 if lines == [BEYOND] else 0, told):
-            found += f"--- {' '.join(words)}, wanted\n{report}{told}--- got, status {got[1]}\n{got[0]}{got[2]}"
+        if got != (report, 4 if lines == [BEYOND] else 0, ""):
+            found += f"--- {' '.join(words)}, wanted\n{report}--- got, status {got[1]}\n{got[0]}{got[2]}"
     return found and text.decode() + found, collections.Counter(kind for kind in seen if seen[kind])
 
 

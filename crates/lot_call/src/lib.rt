@@ -9,7 +9,6 @@
 //!   output can't be written; `file_kind`: what stands in the place of its book.
 //! - `crumbs`: what became of the crumbs of commands; `taken`: what an account took of them, with the
 //!   `sums`. `watched`: all that is watched of commands.
-//! - `unpriced`: lots of a report that have no price.
 //! - `profile`: the profile of an import, as it is read from its file. `export`: what is said of a broker's export; `exported`: its
 //!   rows, for what is said of those that are refused or left out. `row_fault`: why a row says nothing that can be posted, with its
 //!   `figures` and `signs`.
@@ -34,7 +33,6 @@ mod status;
 mod sums;
 mod taken;
 mod told;
-mod unpriced;
 mod watched;
 
 pub use arguments::{say_words_fault, warn, words};
@@ -50,5 +48,4 @@ pub use remembered::Remembered;
 pub use status::out_of_memory;
 pub use taken::say_taken;
 pub use told::{explain, tell};
-pub use unpriced::Appraiser;
 pub use watched::Watched;

@@ -9,8 +9,8 @@ ghost use Rattle.lotbook.specs.Answered.{IsAnswered, IsServed};
 use crate::keeper::{Keep, Keeper};
 use lot_book::Verdict;
 use lot_call::{
-    Appraiser, Call, Crumbs, Fate, FileKind, Watched, explain, say_aside, say_export_fault,
-    say_fate, say_taken, say_unwritten, sum_up,
+    Call, Crumbs, Fate, FileKind, Watched, explain, say_aside, say_export_fault, say_fate,
+    say_taken, say_unwritten, sum_up,
 };
 use lot_cli::{
     Action, AdoptFault, Aside, CommandFault, CountedWriter, CreateFault, DumpFault, Export,
@@ -40,13 +40,11 @@ pub fn answer<S: Alter>(call: &Call<'_>, conn: Connection<S>) -> Served<S>
         Keep::TakenBack
     };
     let mut reader = Keeper::new(alloc, call.rt.reader(), keep);
-    let appraiser = Appraiser::new(call, output_of(call));
-    let mut writer = Witness::new(alloc, appraiser, call.most());
+    let mut writer = Witness::new(alloc, output_of(call), call.most());
     let mut watched = Watched::of(call);
     let mut served = do_quietly(call, &mut reader, &mut writer, &mut watched, conn);
     reader.free_room();
-    let (appraiser, heard) = writer.into_parts();
-    let output = appraiser.say_unpriced(call, &heard);
+    let (output, heard) = writer.into_parts();
     output.end();
     speak(
         call,
