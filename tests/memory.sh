@@ -73,10 +73,11 @@ judged() {
 }
 
 # The least limit, in steps of 20 KiB, with which the program runs at all. Below it the system can't load it: the kernel kills
-# it, and with a bit more the loader ends with 127. After that each end is the program's own.
-least=1000 loader=
+# it, and with a bit more the loader ends with 127. Where only the last two pages that it asks for lack, it is killed: that is a range of
+# less than one step. After that each end is the program's own.
+least=1000 loader="" killed=0
 while within "$least" /dev/null && ((status >= 127 && least < 1000000)); do
-    if ((status == 127)); then loader=yes; elif [[ -n $loader ]]; then break; fi
+    if ((status == 127)); then loader=yes; elif [[ -n $loader ]] && ((killed++)); then break; fi
     least=$((least + 20))
 done
 if ((status == 0 || status == 4)); then pass "just enough to be loaded"; else fail "just enough to be loaded" "status $status"; fi

@@ -3,7 +3,7 @@
     by_bean_query.py FOLDER DIFFERS SCRATCH
 
 For each NAME.past under the folder, the program's table of that day, there are NAME.day, which has the day, and NAME.journal. The query
-adds up numbers, by account, commodity and the parts of a cost, and no inventories, whose numbers `bean-query` may round as it prints them.
+adds up numbers, by account, commodity and the parts of a cost. `bean-query` rounds numbers as it prints them, so they are asked for as texts.
 It is asked of the journal behind the line that sets Beancount's tolerance to nothing, as in by_beancount.py. Journals that the file DIFFERS
 names aren't compared. It prints a line `ok NAME` or `FAILED NAME: ..` for each.
 """
@@ -11,6 +11,7 @@ names aren't compared. It prints a line `ok NAME` or `FAILED NAME: ..` for each.
 import csv
 import io
 import os
+import re
 import subprocess
 import sys
 from decimal import Decimal
@@ -18,8 +19,10 @@ from decimal import Decimal
 import tally
 
 EXACT_BALANCE = 'option "inferred_tolerance_multiplier" "0"\n'
-PARTS = "account, currency, cost_date, cost_label, cost_number, cost_currency"
-QUERY = f"SELECT {PARTS}, sum(number) AS held WHERE date <= {{}} GROUP BY {PARTS}"
+PARTS = "account, currency, cost_date, cost_label, {} cost_currency"
+ASKED, GROUPED = PARTS.format("str(cost_number) AS each,"), PARTS.format("each,")
+QUERY = f"SELECT {ASKED}, str(sum(number)) AS held WHERE date <= {{}} GROUP BY {GROUPED}"
+NUMBER = re.compile(r"Decimal\('(.+)'\)")
 
 
 def positions(rows):
@@ -41,8 +44,8 @@ def of_query(text):
     """What `bean-query` prints as CSV: its fields are filled up with blanks. Of nothing it says that it is empty."""
     if text.strip() == "(empty)":
         return {}
-    rows = [[field.strip() for field in row] for row in csv.reader(io.StringIO(text, newline="")) if row]
-    return positions(rows[1:])
+    rows = [[NUMBER.sub(r"\1", field.strip()) for field in row] for row in csv.reader(io.StringIO(text, newline="")) if row]
+    return positions([*row[:4], "" if row[4] == "None" else row[4], *row[5:]] for row in rows[1:])
 
 
 def content(path):
