@@ -72,7 +72,7 @@ unusable "sell" sell
 unusable "migration" migration --book f
 unusable "hold" hold --book f
 unusable "sell" help sell
-for word in holdings gains journal dump restore import; do unusable "--book" "$word" --batch a; done
+for word in holdings gains journal page dump restore import; do unusable "--book" "$word" --batch a; done
 unusable "--book" migrate
 unusable "--book" verify
 unusable "--batch" migrate --book f --batch a

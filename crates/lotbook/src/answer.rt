@@ -10,8 +10,8 @@ ghost use Rattle.lotbook.specs.Answered.{IsAnswered, IsServed};
 use crate::keeper::{Keep, Keeper};
 use lot_book::Verdict;
 use lot_call::{
-    Appraiser, Call, Crumbs, Fate, FileKind, Watched, explain, say_aside, say_export_fault,
-    say_fate, say_statement_fault, say_taken, say_unwritten, sum_up,
+    Appraiser, Call, Crumbs, Fate, FileKind, Forewarner, Watched, explain, say_aside,
+    say_export_fault, say_fate, say_statement_fault, say_taken, say_unwritten, sum_up,
 };
 use lot_cli::{
     Action, AdoptFault, Aside, CommandFault, CountedWriter, CreateFault, DumpFault, Export,
@@ -42,13 +42,14 @@ pub fn answer<S: Alter>(call: &Call<'_>, conn: Connection<S>) -> Served<S>
         Keep::TakenBack
     };
     let mut reader = Keeper::new(alloc, call.rt.reader(), keep);
-    let appraiser = Appraiser::new(call, output_of(call));
+    let forewarner = Forewarner::new(call, output_of(call));
+    let appraiser = Appraiser::new(call, forewarner);
     let mut writer = Witness::new(alloc, appraiser, call.most());
     let mut watched = Watched::of(call);
     let mut served = do_quietly(call, &mut reader, &mut writer, &mut watched, conn);
     reader.free_room();
     let (appraiser, heard) = writer.into_parts();
-    let output = appraiser.say_unpriced(call, &heard);
+    let output = appraiser.say_unpriced(call, &heard).into_writer();
     output.end();
     speak(
         call,

@@ -1,0 +1,2 @@
+mod CharLemmas
+mod LawLemmas
