@@ -2,7 +2,7 @@
 # Written by tools/pages.py from the subcommands of the program: change those, and run it again.
 
 # The words of the program, and those of `help`; the codes of `explain`.
-_lotbook_words="init migrate post import holdings gains register activity journal page dump reconcile restore verify explain help"
+_lotbook_words="init migrate post import holdings gains register activity journal dump reconcile restore verify explain help"
 _lotbook_codes="N1 N2 N3 N4 M1 M2 M3 M4 M5 I1 B1 B2 B3 B4 B5 B6"
 _lotbook_codes+=" L1 L2 L3 L4 L5 L6 L7 L8 L9 L10 L11 L12 L13 L14 L15 L16"
 _lotbook_codes+=" X1 X2 X3 X4 X5 X6 X7 D1 D2 D3 D4 C1 C2 C3 C4 C5"
@@ -15,19 +15,18 @@ _lotbook_options() {
         init) echo --book --dry-run --quiet --help ;;
         migrate) echo --book --dry-run --quiet --help ;;
         post)
-            echo --book --batch --row-of --ref --from --rounding --within --decimals --dry-run --gains --holdings
-            echo --all-or-none --explain-all --quiet --help
+            echo --book --batch --row-of --ref --from --rounding --within --decimals --dry-run --all-or-none
+            echo --explain-all --quiet --help
             ;;
         import)
             echo --book --batch --profile --invest --cash --fees --gains --from --except --rounding --within --decimals
-            echo --dry-run --sales --holdings --all-or-none --explain-all --keep-accepted --show --quiet --help
+            echo --dry-run --all-or-none --explain-all --keep-accepted --show --quiet --help
             ;;
         holdings) echo --book --as-of --day --format --quiet --help ;;
         gains) echo --book --first --last --by --format --quiet --help ;;
         register) echo --book --account --commodity --first --last --format --quiet --help ;;
         activity) echo --book --account --first --last --by --format --quiet --help ;;
         journal) echo --book --quiet --help ;;
-        page) echo --book --first --last --day --digest --quiet --help ;;
         dump) echo --book --quiet --help ;;
         reconcile) echo --book --account --as-of --format --quiet --help ;;
         restore)
@@ -78,10 +77,7 @@ _lotbook() {
             esac
             return
             ;;
-        --gains)
-            case $word in import) return ;; esac
-            ;;
-        --account | --as-of | --batch | --cash | --commodity | --day | --decimals | --except | --fees | --first | --from | --invest | --last | --ref | --rounding | --row-of | --within | --without | --without-batch | --without-entries) return ;;
+        --account | --as-of | --batch | --cash | --commodity | --day | --decimals | --except | --fees | --first | --from | --gains | --invest | --last | --ref | --rounding | --row-of | --within | --without | --without-batch | --without-entries) return ;;
     esac
     if [[ $current == -* ]]; then
         _lotbook_offer -W "$(_lotbook_options "$word")"

@@ -1,5 +1,5 @@
 -- What words ask for: what the values matched by `clap` name, and the option whose value is outside its rule.
-use Rattle.std.specs.Prelude.{◌≡◌, ◌==◌, ◌||◌, ◌++◌, if◌then◌else◌, ℕ, Bool, false, true, List, [], ◌∷◌, Option, Some, None, codes, filter_map, option_and_then, option_map, unwrap_or}
+use Rattle.std.specs.Prelude.{◌≡◌, ◌||◌, ◌++◌, if◌then◌else◌, ℕ, Bool, false, true, List, [], Option, Some, None, codes, filter_map, option_and_then, option_map, unwrap_or}
 use Rattle.std.specs.Str.{bytes_eq}
 use Rattle.std.specs.String.{string_bytes}
 use Rattle.clap.specs.Words.{Row, Text, fault_of, first_of, matches_of, subcommand_of}
@@ -16,14 +16,13 @@ use Rattle.lot_args.specs.Activity.{length_of}
 use Rattle.lot_args.specs.From.{from_of}
 use Rattle.lot_args.specs.Keys.{keys_of}
 use Rattle.lot_args.specs.Options.{day_of, except_of, first_bad, has_profile, has_row, is_given, is_set, is_shown, misplaced, missing_of, options_of, rounding_options, value_of, values_of}
-use Rattle.lot_args.specs.Preview.{effect_of}
 use Rattle.lot_args.specs.Program.{program_app}
 use Rattle.lot_args.specs.Rounding.{rounding_of}
 use Rattle.lot_args.specs.declared.action.Action.{Action}
 use Rattle.lot_args.specs.declared.action.AskedImport.{AskedImport}
 use Rattle.lot_args.specs.declared.action.Action.TheVariants.{Check, Init, Migrate, Post, PostRow, Import, ImportBy, Report as Reporting, Reconcile, Restore, Verify}
 use Rattle.lot_args.specs.declared.action.Report.{Report}
-use Rattle.lot_args.specs.declared.action.Report.TheVariants.{Holdings, HoldingsOn, Gains, GainsBy, AddedGains, Register, Activity, Journal, Page, Dump}
+use Rattle.lot_args.specs.declared.action.Report.TheVariants.{Holdings, HoldingsOn, Gains, GainsBy, Register, Activity, Journal, Dump}
 use Rattle.lot_args.specs.declared.action.Format.{Format}
 use Rattle.lot_args.specs.declared.action.Format.TheVariants.{Text as AsText, Csv}
 use Rattle.lot_args.specs.declared.action.Keeping.{Keeping}
@@ -34,8 +33,6 @@ use Rattle.lot_args.specs.declared.fault.BadOption.{BadOption}
 use Rattle.lot_args.specs.declared.fault.Needed.{Needed}
 use Rattle.lot_args.specs.declared.request.Effect.{Effect}
 use Rattle.lot_args.specs.declared.request.Effect.TheVariants.{DryRun, Keep}
-use Rattle.lot_args.specs.declared.request.Preview.{Preview}
-use Rattle.lot_args.specs.declared.request.Preview.TheVariants as preview
 use Rattle.lot_args.specs.declared.request.Notes.{Notes}
 use Rattle.lot_args.specs.declared.request.Notes.TheVariants.{All, Quiet, Ten}
 use Rattle.lot_args.specs.declared.request.Request.{Request}
@@ -69,24 +66,21 @@ without_of rows =
 
 -- ---- options without a value
 
--- which commits keep the commands of a dry run, where these are asked for: one for each where nothing is told of the book after it
-abbrev pub keeping_told : Preview → Keeping → Keeping
-keeping_told preview.Nothing asked = Each
-keeping_told preview.Gains asked = asked
-keeping_told preview.Holdings asked = asked
-keeping_told preview.GainsAndHoldings asked = asked
+-- what the call may leave in the book
+abbrev pub effect_of : List Row → Effect
+effect_of rows = if is_set (codes "dry-run") rows then DryRun else Keep
 
-abbrev pub keeping_in : Effect → Keeping → Keeping
-keeping_in Keep asked = asked
-keeping_in (DryRun told) asked = keeping_told told asked
+-- which commits keep its commands: a dry run has none
+abbrev pub keeping_of : List Row → Keeping
+keeping_of rows =
+    if is_set (codes "dry-run") rows then Each
+    else (if is_set (codes "all-or-none") rows then AllOrNone else Each)
 
--- which commits keep the commands of a call of the word
-abbrev pub keeping_of : Text → List Row → Keeping
-keeping_of word rows = if is_set (codes "all-or-none") rows then keeping_in (effect_of word rows) AllOrNone else Each
-
--- which commits keep those of an import by a profile: one for all, where nothing is said
+-- which commits keep the commands of an import by a profile: one for all, where nothing is said
 abbrev pub keeping_by_profile : List Row → Keeping
-keeping_by_profile rows = if is_set (codes "keep-accepted") rows then Each else keeping_in (effect_of (codes "import") rows) AllOrNone
+keeping_by_profile rows =
+    if is_set (codes "dry-run") rows then Each
+    else (if is_set (codes "keep-accepted") rows then Each else AllOrNone)
 
 -- what is written of a verified book
 abbrev pub saying_of : List Row → Saying
@@ -110,14 +104,6 @@ notes_of before rows =
     if is_in_either (codes "quiet") before rows then Quiet
     else (if is_in_either (codes "explain-all") before rows then All else Ten)
 
--- what stands behind the last slash of a path, or all of it where there is none: behind each slash the text begins anew
-abbrev pub name_from : List ℕ → List ℕ → List ℕ
-name_from begun [] = begun
-name_from begun (byte ∷ rest) = if byte == 47 then name_from [] rest else name_from (begun ++ byte ∷ []) rest
-
-abbrev pub file_name : Text → Text
-file_name path = name_from [] path
-
 -- ---- the action
 
 -- the book is the one that is named
@@ -137,7 +123,6 @@ AsksForReport word rows (Gains first last format) =
 AsksForReport word rows (GainsBy first last by format) =
     (word ≡ codes "gains") × (is_given (codes "by") rows ≡ true) × (first ≡ day_of (codes "first") rows)
     × (last ≡ day_of (codes "last") rows) × (by.items ≡ keys_of rows) × (format ≡ format_of rows)
-AsksForReport word rows (AddedGains behind) = ⊥
 AsksForReport word rows (Register account commodity first last format) =
     (word ≡ codes "register") × (string_bytes account ≡ value_of (codes "account") rows)
     × (commodity ≡ first_of (codes "commodity") rows) × (first ≡ day_of (codes "first") rows)
@@ -146,9 +131,6 @@ AsksForReport word rows (Activity account length first last format) =
     (word ≡ codes "activity") × (option_map string_bytes account ≡ first_of (codes "account") rows) × (length ≡ length_of rows)
     × (first ≡ day_of (codes "first") rows) × (last ≡ day_of (codes "last") rows) × (format ≡ format_of rows)
 AsksForReport word rows Journal = word ≡ codes "journal"
-AsksForReport word rows (Page name first last day saying) =
-    (word ≡ codes "page") × (string_bytes name ≡ file_name (value_of (codes "book") rows)) × (first ≡ day_of (codes "first") rows)
-    × (last ≡ day_of (codes "last") rows) × (day ≡ day_of (codes "day") rows) × (saying ≡ saying_of rows)
 AsksForReport word rows Dump = word ≡ codes "dump"
 
 -- a word with the values of its options asks for the action
@@ -159,14 +141,14 @@ WordAsks word rows (Migrate book) = (word ≡ codes "migrate") × IsBook rows (s
 WordAsks word rows (Post post) =
     (word ≡ codes "post") × (has_row rows ≡ false) × IsBook rows (string_bytes post.book)
     × (post.batch ≡ value_of (codes "batch") rows) × (post.from ≡ from_of rows) × (post.rounding ≡ rounding_of rows)
-    × (post.keeping ≡ keeping_of word rows)
+    × (post.keeping ≡ keeping_of rows)
 WordAsks word rows (PostRow book batch reference rounding) =
     (word ≡ codes "post") × (has_row rows ≡ true) × IsBook rows (string_bytes book)
     × (batch ≡ value_of (codes "row-of") rows) × (reference ≡ value_of (codes "ref") rows) × (rounding ≡ rounding_of rows)
 WordAsks word rows (Import import) =
     (word ≡ codes "import") × (has_profile rows ≡ false) × IsBook rows (string_bytes import.book) × (import.batch ≡ value_of (codes "batch") rows)
     × (import.accounts ≡ accounts_of rows) × (import.from ≡ from_of rows) × (import.except.items ≡ except_of rows)
-    × (import.rounding ≡ rounding_of rows) × (import.keeping ≡ keeping_of word rows)
+    × (import.rounding ≡ rounding_of rows) × (import.keeping ≡ keeping_of rows)
 WordAsks word rows (ImportBy import) = ⊥
 WordAsks word rows (Reporting book report) = IsBook rows (string_bytes book) × AsksForReport word rows report
 WordAsks word rows (Reconcile asked) =
@@ -198,10 +180,10 @@ AsksToImport rows import =
 -- a word with the values of its options, and with those before it, asks for this
 abbrev pub WordRequests : List Row → Text → List Row → Request → Type 0
 WordRequests before word rows (Act action effect notes) =
-    WordAsks word rows action × (effect ≡ effect_of word rows) × (notes ≡ notes_of before rows)
+    WordAsks word rows action × (effect ≡ effect_of rows) × (notes ≡ notes_of before rows)
 WordRequests before word rows (ImportRows profile import effect notes) =
     (word ≡ codes "import") × (is_shown rows ≡ false) × IsProfile rows (string_bytes profile) × AsksToImport rows import
-    × (effect ≡ effect_of word rows) × (notes ≡ notes_of before rows)
+    × (effect ≡ effect_of rows) × (notes ≡ notes_of before rows)
 WordRequests before word rows (Show profile notes) =
     (word ≡ codes "import") × (is_shown rows ≡ true) × IsProfile rows (string_bytes profile) × (notes ≡ notes_of before rows)
 WordRequests before word rows (Explain code) = (word ≡ codes "explain") × IsCode rows (option_map string_bytes code)

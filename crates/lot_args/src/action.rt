@@ -168,10 +168,6 @@ pub enum Report {
         by: Vec<GainKey>,
         format: Format,
     },
-    /// What the sales of the entries behind that number of them gained, as lines to be read. No subcommand asks for it.
-    AddedGains {
-        behind: u32,
-    },
     /// The legs of an account in the order of days, from the first day to the last, both included, each with what is left behind
     /// it. Without a day that end of the range is open. With a colon at its end the account stands for every account whose name
     /// begins with it. With a commodity, those of that one alone.
@@ -194,17 +190,6 @@ pub enum Report {
     },
     /// Its entries.
     Journal,
-    /// The book as one page of HTML: what its sales gained from the first day to the last, both included, what it held at the end of
-    /// the last, at the prices of a day, and its entries on those days. Without a day that end of the range is open, and the
-    /// prices are those of the last day.
-    Page {
-        /// The name of the file of the book, without the folders before it.
-        name: String,
-        first: Option<Day>,
-        last: Option<Day>,
-        day: Option<Day>,
-        saying: Saying,
-    },
     /// Its entries, between two lines by which the book can be made again.
     Dump,
 }

@@ -56,7 +56,7 @@ const PROGRAM: Word = Word {
 };
 
 /// The subcommands, in the order in which the help lists them.
-const WORDS: [Word; 15] = [
+const WORDS: [Word; 14] = [
     // `init --book FILE [--dry-run]`
     Word {
         name: "init",
@@ -88,7 +88,7 @@ const WORDS: [Word; 15] = [
         ],
     },
     // `post --book FILE (--batch NAME [--from N] | --row-of NAME --ref REF)
-    // [--rounding ACCOUNT [--within AMOUNT] [--decimals N]] [--dry-run [--gains] [--holdings]] [--all-or-none] [--explain-all]`
+    // [--rounding ACCOUNT [--within AMOUNT] [--decimals N]] [--dry-run] [--all-or-none] [--explain-all]`
     Word {
         name: "post",
         brief: "Posts ledger text from standard input to a book",
@@ -120,19 +120,13 @@ const WORDS: [Word; 15] = [
             WITHIN,
             DECIMALS,
             DRY_RUN,
-            WordOption {
-                form: Form::Flag,
-                name: "gains",
-                help: "Prints behind the replies what the sales gain that the call would add, as in lotbook post --book family.book --batch what-if --dry-run --gains < sale.ledger. It goes with --dry-run",
-            },
-            HOLDINGS,
             ALL_OR_NONE,
             EXPLAIN_ALL,
         ],
     },
     // `import (--book FILE --batch NAME (--profile FILE [--keep-accepted] | --invest ACCOUNT --cash ACCOUNT --fees ACCOUNT
-    // --gains ACCOUNT [--from N] [--rounding ACCOUNT [--within AMOUNT] [--decimals N]]) [--except REF]...
-    // [--dry-run [--sales] [--holdings]] [--all-or-none] | --profile FILE --show) [--explain-all]`
+    // --gains ACCOUNT [--from N] [--rounding ACCOUNT [--within AMOUNT] [--decimals N]]) [--except REF]... [--dry-run] [--all-or-none] |
+    // --profile FILE --show) [--explain-all]`
     Word {
         name: "import",
         brief: "Posts the rows of a broker file from standard input to a book",
@@ -254,36 +248,6 @@ const WORDS: [Word; 15] = [
         brief: "Prints the accepted commands of a book as ledger text",
         about: "Prints the accepted commands of a book as ledger text: lotbook journal --book family.book > family.ledger",
         options: &[BOOK, QUIET],
-    },
-    // `page --book FILE [--first DAY] [--last DAY] [--day DAY] [--digest]`
-    Word {
-        name: "page",
-        brief: "Prints a book as one page of HTML that any browser opens",
-        about: "Prints a book as one page of HTML that any browser opens, without a network: lotbook page --book family.book --first 2024-01-01 --last 2024-12-31 > book.html\n\nIt has what sales gained by year and by commodity, what is held, with its worth and plots of it, the sales with their lots, and the journal. The numbers are those of the other reports.",
-        options: &[
-            BOOK,
-            QUIET,
-            WordOption {
-                form: Form::Optional("DAY"),
-                name: "first",
-                help: "The first day whose sales and entries are on the page, as in --first 2024-01-01. Without it they begin with the book",
-            },
-            WordOption {
-                form: Form::Optional("DAY"),
-                name: "last",
-                help: "The last day of them, at whose end holdings are, as in --last 2024-12-31. Without it all of the book counts",
-            },
-            WordOption {
-                form: Form::Optional("DAY"),
-                name: "day",
-                help: "The day of the prices of what is held, as in --day 2024-12-31. Without it the last day, or else the last prices",
-            },
-            WordOption {
-                form: Form::Flag,
-                name: "digest",
-                help: "Puts the SHA-256 on it with which the dump of the book ends",
-            },
-        ],
     },
     // `dump --book FILE`
     Word {
@@ -443,12 +407,6 @@ pub(crate) const IMPORT_OPTIONS: &[WordOption] = &[
     WITHIN,
     ROW_DECIMALS,
     DRY_RUN,
-    WordOption {
-        form: Form::Flag,
-        name: "sales",
-        help: "Prints behind the replies what the sales gain that the call would add, as in --dry-run --sales. It goes with --dry-run",
-    },
-    HOLDINGS,
     ALL_OR_NONE,
     EXPLAIN_ALL,
     WordOption {
@@ -517,13 +475,6 @@ const DRY_RUN: WordOption = WordOption {
     form: Form::Flag,
     name: "dry-run",
     help: "Prints what the call would print, with its status, and keeps nothing: neither the file of the book nor its log is changed",
-};
-
-/// `--holdings` of a dry run.
-const HOLDINGS: WordOption = WordOption {
-    form: Form::Flag,
-    name: "holdings",
-    help: "Prints behind the replies what the book would hold, as in --dry-run --holdings. It goes with --dry-run",
 };
 
 /// `--all-or-none`

@@ -2,12 +2,12 @@ ghost use Rattle.std.specs.Prelude.{◌≡◌, ◌≢◌, codes, false, true, Er
 ghost use Rattle.std.specs.String.{string_bytes};
 ghost use Rattle.clap.specs.Words.{IsAmong, fault_of, found_of, kind_of, rows_of, takes};
 ghost use Rattle.clap.specs.declared.error.ErrorKind.TheVariants.{OutOfMemory};
-ghost use Rattle.lot_args.specs.Options.{first_bad, has_profile, is_shown, options_of, value_of};
+ghost use Rattle.lot_args.specs.Options.{first_bad, has_profile, is_shown, options_of};
 ghost use Rattle.lot_args.specs.declared.fault.Needed.{Needed};
 ghost use Rattle.lot_args.specs.Program.{program_app};
 ghost use Rattle.lot_args.specs.Steps.{IsBookWord, IsWord, JudgesOptions};
 ghost use Rattle.lot_args.specs.Words.{Ask, AskFor, HaveBadIn, HaveMisplaced, LackSome, WordAsks, WordRequests};
-ghost use Rattle.lot_args.specs.Words.{AsksForReport, AsksToImport, file_name};
+ghost use Rattle.lot_args.specs.Words.{AsksForReport, AsksToImport};
 ghost use Rattle.lot_args.specs.declared.fault.WordsFault.TheVariants.{BadValue, Misplaced, MissingOptions, Usage};
 
 use crate::action::{Action, AskedImport, Import, Post, Reconcile, Report, Restore};
@@ -122,7 +122,7 @@ fn requested(
     }
     Ok(Request::Act {
         action: action(alloc, word, options)?,
-        effect: effect(word, options),
+        effect: effect(options),
         notes: notes(before, options),
     })
 }
@@ -149,7 +149,7 @@ fn by_profile(
     Ok(Request::Import {
         profile,
         import: asked_import(alloc, options)?,
-        effect: effect("import", options),
+        effect: effect(options),
         notes: notes(before, options),
     })
 }
@@ -194,7 +194,7 @@ fn action(alloc: Global, word: &str, options: &ArgMatches<'_>) -> Result<Action,
             batch: batch(alloc, options, "batch")?,
             from: from(options),
             rounding: rounding(alloc, options)?,
-            keeping: keeping(word, options),
+            keeping: keeping(options),
         })),
         "import" => Ok(Action::Import(Import {
             book,
@@ -203,7 +203,7 @@ fn action(alloc: Global, word: &str, options: &ArgMatches<'_>) -> Result<Action,
             from: from(options),
             except: except(alloc, options)?,
             rounding: rounding(alloc, options)?,
-            keeping: keeping(word, options),
+            keeping: keeping(options),
         })),
         "holdings" => Ok(Action::Report {
             book,
@@ -224,10 +224,6 @@ fn action(alloc: Global, word: &str, options: &ArgMatches<'_>) -> Result<Action,
         "journal" => Ok(Action::Report {
             book,
             report: Report::Journal,
-        }),
-        "page" => Ok(Action::Report {
-            report: page(alloc, book.as_str(), options)?,
-            book,
         }),
         "dump" => Ok(Action::Report {
             book,
@@ -306,30 +302,6 @@ fn register(alloc: Global, options: &ArgMatches<'_>) -> Result<Report, AllocErro
         last: day(options, BadOption::Last),
         format: format(options),
     })
-}
-
-/// Returns the page that `page` asks for of the book of that path. The only error is out of memory.
-fn page(alloc: Global, path: &str, options: &ArgMatches<'_>) -> Result<Report, AllocError>
-    requires { path.now ≡ value_of (codes "book") (rows_of (found_of options.now)) }
-    ensures { IfOk result (AsksForReport (codes "page") (rows_of (found_of options.now))) }
-{
-    Ok(Report::Page {
-        name: String::from_str(alloc, file_name(path))?,
-        first: day(options, BadOption::First),
-        last: day(options, BadOption::Last),
-        day: day(options, BadOption::Day),
-        saying: saying(options),
-    })
-}
-
-/// Returns what stands behind the last slash of a path, or all of it where there is none.
-fn file_name(path: &str) -> &str
-    ensures { result.now ≡ file_name path.now }
-{
-    match path.rsplit_once('/') {
-        Some((_, name)) => name,
-        None => path,
-    }
 }
 
 /// Returns the report that `activity` asks for. The only error is out of memory.

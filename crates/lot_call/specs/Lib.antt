@@ -4,5 +4,4 @@ pub mod Loaded
 pub mod Looks
 pub mod Remains
 pub mod Rounding
-pub mod Status
 pub mod Sums

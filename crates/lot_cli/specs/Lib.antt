@@ -9,7 +9,6 @@ pub mod Reports
 pub mod Reconcile
 pub mod Check
 pub mod Serve
-pub mod Preview
 pub mod Sessions
 pub mod Reopen
 pub mod AllOrNone

@@ -6,8 +6,7 @@ ghost use Rattle.sqlite.specs.Held.{state};
 ghost use Rattle.sqlite.specs.State.{HasCleanDisk};
 ghost use Rattle.sqlite.specs.Tree.{Trees};
 ghost use Rattle.lot_io.specs.Reads.{reads_between};
-ghost use Rattle.lot_cli.specs.Says.{Halts, told};
-ghost use Rattle.lot_cli.specs.declared.halt.Halt.TheVariants.{Create};
+ghost use Rattle.lot_cli.specs.Says.{told};
 ghost use Rattle.lot_io.specs.Writes.{writes_between};
 ghost use Rattle.lot_input.specs.Input.{reading_between};
 
@@ -29,7 +28,7 @@ use lot_export::Aside;
 use lot_io::{CountedRead, CountedWrite};
 use lot_migrate::Progress;
 use lot_report::print_texts;
-use lot_store::{CreateFault, HandedBack, create};
+use lot_store::{HandedBack, create};
 use lot_stream::Status;
 use sqlite::{Alter, Connection};
 use std::alloc::Global;
@@ -58,7 +57,6 @@ pub struct Served<S: Alter> {
 /// - `holdings`, `gains`, `register`, `activity`, `journal` and `dump` take the book up and write the report, each row as it is read,
 ///   or what is summed once all is read. The first four write text or CSV. They read no input and change nothing. Where a report ends
 ///   before its end, one line with the fault follows, unless the writer failed.
-/// - `page` takes the book up and writes it as one page of HTML, of which the same holds.
 /// - `reconcile` reads all that the reader has as a statement. Then the book is taken up, and it writes what differs between the two.
 ///   A fault of the input goes before one of the book. It changes nothing.
 /// - `restore` makes a book of the dump that the reader has, in a database without tables. Each command is judged again, and one
@@ -160,22 +158,6 @@ fn init<W: CountedWrite, S: Alter>(alloc: Global, writer: &mut W, conn: Connecti
                 conn: book.into_connection(),
             }
         }
-        Err(left) => not_made(writer, left),
+        Err(HandedBack { fault, conn }) => halted(writer, Halt::Create(fault), conn),
     }
-}
-
-/// Reports the very fault for which no book was made, and hands the connection on.
-pub(crate) fn not_made<W: CountedWrite, S: Alter>(
-    writer: &mut W,
-    left: HandedBack<S, CreateFault>,
-) -> Served<S>
-    ensures says { Halts (Create left.fault)
-        (W.contents writer.old) (W.contents writer.new)
-        (writes_between (W.calls writer.old) (W.calls writer.new))
-        (told result.status result.halt) }
-    ensures same { result.conn ≡ left.conn }
-    ensures status { IsStatus result.status }
-{
-    let HandedBack { fault, conn } = left;
-    halted(writer, Halt::Create(fault), conn)
 }

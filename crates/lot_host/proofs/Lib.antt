@@ -1,2 +1,1 @@
 pub mod ImportLemmas
-pub mod OldLemmas

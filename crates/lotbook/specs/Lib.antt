@@ -1,4 +1,2 @@
 pub mod Answered
-pub mod Compared
-pub mod Shown
 pub mod Statuses

@@ -28,5 +28,8 @@ fn main(rt: HostRuntime) -> ExitCode {
     }
     let failure = Failure::none();
     let system = System::new(&rt, &failure);
-    ExitCode::from(run(&system, rt.alloc(), words(&rt)))
+    ExitCode::from(match words(&rt) {
+        Ok(words) => run(&system, rt.alloc(), &words),
+        Err(status) => status,
+    })
 }

@@ -12,9 +12,6 @@ returns-in-GainsBy-clause-shows g c =
     let shows = rw (c.deref.ensures.value, c.form_of-in-GainsBy.ensures) at c.show_gains_by.ensures.shows in
     rw c.in-GainsBy.is (placed g.S.Store _ _ _ shows)
 
-pub returns-in-AddedGains-clause-shows : goal.returns-in-AddedGains-clause-shows
-returns-in-AddedGains-clause-shows g c = rw c.in-AddedGains.is (placed g.S.Store _ _ _ c.show_added_gains.ensures.shows)
-
 pub returns-in-HoldingsOn-clause-shows : goal.returns-in-HoldingsOn-clause-shows
 returns-in-HoldingsOn-clause-shows g c =
     let shows = rw c.form_of.ensures at c.show_holdings_on.ensures.shows in
@@ -40,12 +37,3 @@ pub returns-in-Activity-clause-shows : goal.returns-in-Activity-clause-shows
 returns-in-Activity-clause-shows g c =
     rw c.in-Activity.is
     (rw (c.scope_of-scope.ensures, c.form_of-in-Activity.ensures) at (placed g.S.Store _ _ _ c.show_activity.ensures.shows))
-
-pub returns-in-Page-clause-shows : goal.returns-in-Page-clause-shows
-returns-in-Page-clause-shows g c = rw c.in-Page.is (rw c.page_of-scope.ensures at c.show_page.ensures.shows)
-
-pub returns-in-Page-clause-some : goal.returns-in-Page-clause-some
-returns-in-Page-clause-some g c = rw c.in-Page.is (rw c.page_of-scope.ensures at c.show_page.ensures.some)
-
-pub returns-in-Page-clause-rows : goal.returns-in-Page-clause-rows
-returns-in-Page-clause-rows g c = rw c.in-Page.is (rw c.page_of-scope.ensures at c.show_page.ensures.rows)

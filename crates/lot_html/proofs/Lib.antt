@@ -1,2 +1,0 @@
-mod CharLemmas
-mod LawLemmas
