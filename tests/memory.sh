@@ -72,12 +72,11 @@ judged() {
     fi
 }
 
-# The least limit, in steps of 20 KiB, with which the program runs at all. Below it the system can't load it: the kernel kills
-# it, and with a bit more the loader ends with 127. Where only the last two pages that it asks for lack, it is killed: that is a range of
-# less than one step. After that each end is the program's own.
-least=1000 loader="" killed=0
-while within "$least" /dev/null && ((status >= 127 && least < 1000000)); do
-    if ((status == 127)); then loader=yes; elif [[ -n $loader ]] && ((killed++)); then break; fi
+# The least limit, in steps of 20 KiB, with which the system's loader hands over to the program, which it says where it is asked to.
+# Below it the kernel kills the program unloaded, or the loader ends with 127, or is killed itself where its last two pages lack. From
+# there on each end is the program's own.
+least=1000
+until LD_DEBUG=files within "$least" /dev/null; grep -q 'transferring control' "$scratch/err" || ((least >= 1000000)); do
     least=$((least + 20))
 done
 if ((status == 0 || status == 4)); then pass "just enough to be loaded"; else fail "just enough to be loaded" "status $status"; fi

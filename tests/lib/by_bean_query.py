@@ -40,12 +40,18 @@ def of_table(text):
     return positions([record[name] for name in columns] for record in csv.DictReader(io.StringIO(text, newline="")))
 
 
+def number(text):
+    """The number that `bean-query` says as a text, or nothing where it says `None`."""
+    found = NUMBER.fullmatch(text)
+    return found[1] if found else ""
+
+
 def of_query(text):
     """What `bean-query` prints as CSV: its fields are filled up with blanks. Of nothing it says that it is empty."""
     if text.strip() == "(empty)":
         return {}
-    rows = [[NUMBER.sub(r"\1", field.strip()) for field in row] for row in csv.reader(io.StringIO(text, newline="")) if row]
-    return positions([*row[:4], "" if row[4] == "None" else row[4], *row[5:]] for row in rows[1:])
+    rows = [[field.strip() for field in row] for row in csv.reader(io.StringIO(text, newline="")) if row]
+    return positions([*row[:4], number(row[4]), row[5], number(row[6])] for row in rows[1:])
 
 
 def content(path):
