@@ -15,12 +15,12 @@ _lotbook_options() {
         init) echo --book --dry-run --quiet --help ;;
         migrate) echo --book --dry-run --quiet --help ;;
         post)
-            echo --book --batch --row-of --ref --from --rounding --within --decimals --dry-run --all-or-none
-            echo --explain-all --quiet --help
+            echo --book --batch --row-of --ref --from --rounding --within --decimals --dry-run --gains --holdings
+            echo --all-or-none --explain-all --quiet --help
             ;;
         import)
             echo --book --batch --profile --invest --cash --fees --gains --from --except --rounding --within --decimals
-            echo --dry-run --all-or-none --explain-all --keep-accepted --show --quiet --help
+            echo --dry-run --sales --holdings --all-or-none --explain-all --keep-accepted --show --quiet --help
             ;;
         holdings) echo --book --as-of --day --format --quiet --help ;;
         gains) echo --book --first --last --by --format --quiet --help ;;
@@ -77,7 +77,10 @@ _lotbook() {
             esac
             return
             ;;
-        --account | --as-of | --batch | --cash | --commodity | --day | --decimals | --except | --fees | --first | --from | --gains | --invest | --last | --ref | --rounding | --row-of | --within | --without | --without-batch | --without-entries) return ;;
+        --gains)
+            case $word in import) return ;; esac
+            ;;
+        --account | --as-of | --batch | --cash | --commodity | --day | --decimals | --except | --fees | --first | --from | --invest | --last | --ref | --rounding | --row-of | --within | --without | --without-batch | --without-entries) return ;;
     esac
     if [[ $current == -* ]]; then
         _lotbook_offer -W "$(_lotbook_options "$word")"

@@ -97,8 +97,12 @@ for word in $words; do
     for option in $(options_in_help "$word"); do
         case $option in
             --book | --compare | --profile) offers "$word $option" "family.book" "$word" "$option" fa ;;
-            --quiet | --dry-run | --all-or-none | --explain-all | --digest | --edited | --keep-accepted | --keep-going | --show | --help)
+            --quiet | --dry-run | --sales | --holdings | --all-or-none | --explain-all | --digest | --edited | --keep-accepted | --keep-going | --show | --help)
                 offers "$word $option" "$(options_in_help "$word")" "$word" "$option" ""
+                ;;
+            --gains)
+                if [[ $word == post ]]; then choices=$(options_in_help post); else choices=""; fi
+                offers "$word $option" "$choices" "$word" "$option" ""
                 ;;
             --format) offers "$word $option" $'csv\ntext' "$word" "$option" "" ;;
             --by)

@@ -86,6 +86,65 @@ limited 600 post --book "$book" --batch a <"$scratch/many" >/dev/null 2>&1 # it 
 dry "a book with a long log" "$scratch/many" post --batch a
 as "what stands in the log is there" 0 "1 repeat"
 
+# ---- what a dry run tells behind its replies
+
+place told
+book_of "$book" a <"$examples/first-sale.ledger"
+gained=$'2020-07-01 Assets:Broker -1 HOOL proceeds 540.00 cost 480.00 gain 60.00 USD\n  -1 HOOL {480 USD, 2020-03-02}\ntotal gain 60.00 USD'
+left=$'Assets:Broker 2 HOOL {480 USD, 2020-03-02}\nAssets:Cash -531.15 USD\nExpenses:Fees 9.95 USD\nIncome:Gains -438.80 USD\ntotal cost 960.00 USD'
+held=$'Assets:Broker 3 HOOL {480 USD, 2020-03-02}\nAssets:Cash -1071.15 USD\nExpenses:Fees 9.95 USD\nIncome:Gains -378.80 USD\ntotal cost 1440.00 USD'
+sale=$'2020-07-01 *\n  Assets:Broker -1 HOOL {} @ 540 USD\n  Assets:Cash 540 USD\n  Income:Gains\n'
+printf '%s' "$sale" >"$scratch/sale"
+printf '%s2020-07-02 open Assets:Cash\n' "$sale" >"$scratch/half"
+printf '%s2020-07-02 close Assets:Nowhere\n2020-07-02 opened\n' "$sale" >"$scratch/spoilt"
+
+# tells NAME STATUS LINES INPUT WORDS..: the words on the book, with --dry-run, print this, and no file changes.
+tells() {
+    local before
+    before=$(state "$home")
+    run "${@:5}" --book "$book" --dry-run <"$4"
+    if [[ $(state "$home") != "$before" ]]; then
+        fail "$1" "files changed"
+        return
+    fi
+    answers "$1" "$2" "$3"
+}
+
+tells "gains of a sale" 0 $'1 accepted\n'"$gained" "$scratch/sale" post --batch b --gains
+tells "what would be held" 0 $'1 accepted\n'"$left" "$scratch/sale" post --batch b --holdings
+tells "both, the gains first" 0 $'1 accepted\n'"$gained"$'\n'"$left" "$scratch/sale" post --batch b --holdings --gains
+tells "the accepted ones count beside a refused one" 1 $'1 accepted\n2 refused L2 AlreadyOpen\n'"$gained"$'\n'"$left" "$scratch/half" post --batch b --gains --holdings
+tells "of all or none, none" 1 $'1 accepted\n2 refused L2 AlreadyOpen\nno gains\n'"$held" "$scratch/half" post --batch b --gains --holdings --all-or-none
+tells "of all or none, all" 0 $'1 accepted\n'"$gained" "$scratch/sale" post --batch b --gains --all-or-none
+tells "repeats add nothing" 0 $'1 repeat\n2 repeat\n3 repeat\n4 repeat\n5 repeat\n6 repeat\n7 repeat\nno gains' "$examples/first-sale.ledger" post --batch a --gains
+tells "no commands" 0 $'no gains\n'"$held" /dev/null post --batch b --gains --holdings
+tells "a faulty text" 3 "fault line 6 X3 UnknownDirective" "$scratch/spoilt" post --batch b --gains --holdings
+tells "in place of a row" 0 $'1 accepted\n'"$gained" "$scratch/sale" post --row-of deals --ref S-1 --gains
+tells "in place of a row, a text that doesn't fit" 2 "" /dev/null post --row-of deals --ref S-1 --gains
+{ echo "$header" && echo S-1,2020-07-01,SELL,HOOL,1,540,USD,; } >"$scratch/sale.csv"
+{ cat "$scratch/sale.csv" && echo S-2,2020-07-02,SELL,HOOL,9,540,USD,; } >"$scratch/half.csv"
+tells "rows" 0 $'1 accepted\n'"$gained"$'\n'"$left" "$scratch/sale.csv" import --batch deals "${accounts[@]}" --sales --holdings
+tells "rows of all or none" 1 $'1 accepted\n2 refused B3 NotEnough posting 1\nno gains' "$scratch/half.csv" import --batch deals "${accounts[@]}" --sales --all-or-none
+for words in "post --batch b --gains" "post --batch b --holdings" "import --batch deals ${accounts[*]} --sales" "import --batch deals ${accounts[*]} --holdings"; do
+    # shellcheck disable=SC2086
+    run $words --book "$book" </dev/null
+    option=${words##* }
+    answers "without --dry-run: $words" 2 ""
+    if [[ $(<"$scratch/err") == "fault U2 BadValue $option"$'\n'"lotbook: $option stands beside --dry-run alone, as in --dry-run $option" ]]; then
+        pass "it says so"
+    else
+        fail "it says so" "$(<"$scratch/err")"
+    fi
+done
+run_full post --book "$book" --batch b --dry-run --gains <"$scratch/sale"
+stops "a full disk behind gains" "the output of a dry run is cut short"
+tables rows "$book" "INSERT INTO plain (account, commodity, units) VALUES ('x', 'USD', 500000000)"
+tells "what would be held in a damaged book" 4 $'1 accepted\n'"$gained"$'\nfault S7 Damaged' "$scratch/sale" post --batch b --gains --holdings
+place elsewhere
+tells "gains on a missing file" 4 "fault S1 NotABook" "$scratch/sale" post --batch b --gains --holdings
+: >"$book"
+tells "gains on an empty file" 4 "fault S1 NotABook" "$scratch/sale" post --batch b --gains
+
 # ---- files that are no book
 
 place missing

@@ -719,6 +719,89 @@ line=$(wc -l <"$scratch/maple.toml")
 printf 'fault U2 BadValue --profile\nlotbook: %s: line %d is no TOML, or has a key that stands above already\n' "$scratch/maple.toml" "$line" >"$scratch/told"
 if ((status == 2)) && cmp -s "$scratch/told" "$scratch/err"; then pass "a key twice in a profile"; else fail "a key twice in a profile" "status $status: $(tail -n 1 "$scratch/err")"; fi
 
+# Lots without a price: what standard error says beside holdings with a day, as text and as a table. With --quiet it says nothing, and
+# standard output is the same.
+unpriced() {
+    local form
+    printf '%s' "${2:+lotbook: warning: lots without a price in their currency at $2$'\n'}" >"$scratch/told"
+    for form in text csv; do
+        run holdings --book "$book" --format "$form" --quiet "${@:3}" </dev/null
+        cp "$scratch/out" "$scratch/first"
+        if [[ -s $scratch/err ]]; then fail "$1, $form, quiet" "it says $(head -n 1 "$scratch/err")"; fi
+        run holdings --book "$book" --format "$form" "${@:3}" </dev/null
+        if ((status == 0)) && cmp -s "$scratch/first" "$scratch/out" && cmp -s "$scratch/told" "$scratch/err"; then
+            pass "$1, $form"
+        else
+            fail "$1, $form" "status $status: $(diff "$scratch/told" "$scratch/err" | head -n 4 | tr '\n' '|')"
+        fi
+    done
+}
+opened
+unpriced "an empty book" "" --day 2020-12-31
+"$program" post --book "$book" --batch lots >"$scratch/posted" 2>&1 <<'END'
+2020-01-02 * "A lot"
+  Assets:Broker 10 HOOL {100 USD}
+  Assets:Cash
+2020-01-03 * "In another currency, with a label that looks like the end of a record"
+  Assets:Broker 2.5 GOLD {40.5 EUR, "5,USD,10,,"}
+  Assets:Cash
+2020-01-04 * "With a label that looks like the end of a line"
+  Assets:Broker 4 IRON {3 USD, "} value none"}
+  Assets:Cash
+2020-01-05 * "Short"
+  Assets:Broker -2 LEAD {7.5 USD, "of two, the first"}
+  Assets:Cash
+2020-02-01 price IRON 3.5 USD
+2020-03-01 price HOOL 110 USD
+2020-03-01 price GOLD 45 USD
+2020-04-01 price GOLD 41 EUR
+2020-05-01 price LEAD 0 USD
+END
+if grep -qv accepted "$scratch/posted"; then fail "lots for a case" "$(grep -v accepted "$scratch/posted" | head -n 1)"; fi
+unpriced "no day" ""
+unpriced "no lot has a price" "2020-01-31: 4, total cost 101.25 EUR, 997.00 USD; total value of the others: none" --day 2020-01-31
+unpriced "one lot has a price" "2020-02-29: 3, total cost 101.25 EUR, 985.00 USD; total value of the others: 14.00 USD" --day 2020-02-29
+unpriced "a price in another currency" "2020-03-31: 2, total cost 101.25 EUR, -15.00 USD; total value of the others: 1114.00 USD" --day 2020-03-31
+unpriced "one lot has no price" "2020-04-30: 1, total cost -15.00 USD; total value of the others: 102.50 EUR, 1114.00 USD" --day 2020-04-30
+unpriced "each lot has a price" "" --day 2020-05-31
+unpriced "nothing was held" "" --as-of 2020-01-01
+unpriced "a past day" "2020-01-03: 2, total cost 101.25 EUR, 1000.00 USD; total value of the others: none" --as-of 2020-01-03
+unpriced "a past day, at the prices of another" "2020-03-31: 1, total cost 101.25 EUR; total value of the others: 1114.00 USD" \
+    --as-of 2020-01-04 --day 2020-03-31
+unpriced "a past day, at the prices of a later one" "" --as-of 2020-01-04 --day 2020-12-31
+
+# Of a report that isn't written whole only that is said.
+run_full holdings --book "$book" --day 2020-01-31 </dev/null
+stops "lots without a price, on a full disk"
+tables rows "$book" "UPDATE lot SET cost_day = 99999999 WHERE commodity = 'LEAD'" >"$scratch/out"
+run holdings --book "$book" --day 2020-01-31 </dev/null
+says "lots without a price, and damage" "lotbook: S7 Damaged: .+"
+
+# Many lots, to a pipe: more than a buffer holds.
+opened
+for number in {1..2000}; do printf '2020-01-02 *\n  Assets:Broker 0.5 HOOL {100.01 USD, "lot %d"}\n  Assets:Cash\n' "$number"; done |
+    "$program" post --book "$book" --batch many --all-or-none >"$scratch/posted" 2>&1
+unpriced "many lots" "2020-01-02: 2000, total cost 100010.00 USD; total value of the others: none" --day 2020-01-02
+"$program" holdings --book "$book" --day 2020-01-02 2>"$scratch/err" </dev/null | cat >"$scratch/out"
+echo "lotbook: warning: lots without a price in their currency at 2020-01-02: 2000, total cost 100010.00 USD; total value of the others: none" >"$scratch/told"
+if cmp -s "$scratch/told" "$scratch/err"; then pass "many lots, to a pipe"; else fail "many lots, to a pipe" "$(head -n 1 "$scratch/err")"; fi
+
+# A faulty statement: which row, why, and its first line.
+# stated NAME TOLD STATEMENT
+stated() {
+    printf '%b' "$3" >"$scratch/in"
+    echo "lotbook: $2" >"$scratch/told"
+    notes "a statement, $1" 3 reconcile --book "$book" --account Assets:Broker
+}
+begins='a statement begins with `commodity,units`'
+stated "another header" "$begins: the file begins with "'`commodity;units`' 'commodity;units\nUSD;1\n'
+stated "empty" "$begins" ''
+stated "a number" 'row 2: units isn'"'"'t a number of units: `EUR,1x`' 'commodity,units\nUSD,1\n\nEUR,1x\n'
+stated "a commodity" 'row 1: commodity isn'"'"'t a commodity: `usd,1`' 'commodity,units\r\nusd,1\r\n'
+stated "a commodity that comes twice" 'row 2: the commodity stands in a row above: `USD,2`' 'commodity,units\nUSD,1\nUSD,2\n'
+stated "a field more" 'row 1: another number of fields than the header: `USD,1,`' 'commodity,units\nUSD,1,\n'
+stated "a field of two lines" 'row 2: commodity isn'"'"'t a commodity: `"E`' 'commodity,units\n"USD",1\n"E\nR",1\n'
+
 # Standard error that can't be written changes nothing.
 printf '2020-01-01 open Assets:Cash\n' >"$scratch/in"
 echo "1 refused L2 AlreadyOpen" >"$scratch/told"

@@ -107,6 +107,12 @@ unusable "--dry-run" holdings --book f --dry-run
 unusable "--explain-all" journal --book f --explain-all
 unusable "--book" explain --book f
 unusable "L1" explain B2 L1
+unusable "fault U2 BadValue --gains" post --book f --batch a --gains --holdings
+unusable "fault U2 BadValue --holdings" post --book f --batch a --holdings --from 2
+unusable "fault U2 BadValue --decimals" post --book f --batch a --decimals 2 --gains
+unusable "lotbook: --gains stands beside --dry-run alone" post --book f --row-of a --ref r --gains
+unusable "--sales" post --book f --batch a --dry-run --sales
+unusable "--gains" init --book f --dry-run --gains
 unusable "fault U2 BadValue --batch" post --book f --batch a/b
 unusable "\"a/b\" isn't 1 to 32 letters" post --book f --batch a/b
 unusable "\"a/b\" isn't 1 to 32 letters" post --book f --batch=a/b
@@ -225,6 +231,10 @@ unusable "fault U2 BadValue --decimals" import "${by_profile[@]}" --decimals 2
 unusable "fault U2 BadValue --from" import "${by_profile[@]}" --from 2
 unusable "fault U2 BadValue --keep-accepted" import "${by_profile[@]}" --keep-accepted --all-or-none
 unusable "fault U2 BadValue --keep-accepted" import --book f "${good[@]}" --keep-accepted
+unusable "fault U2 BadValue --sales" import "${by_profile[@]}" --sales --holdings --from 2
+unusable "fault U2 BadValue --holdings" import "${by_profile[@]}" --holdings
+unusable "lotbook: --sales stands beside --dry-run alone" import --profile p --show --sales
+unusable "fault U2 BadValue --show" import --profile p --show --dry-run --sales
 unusable "--show stands beside --profile alone" import --show
 for option in "--book f" "--batch a" "--except r" --keep-accepted --all-or-none --dry-run; do
     read -ra words <<<"$option"
@@ -279,6 +289,9 @@ helps "--batch 2024" post -h
 helps "--row-of broker --ref A17" post -h
 for word in post import init migrate restore; do helps "--dry-run" "$word" -h; done
 for word in post import; do helps "--all-or-none" "$word" -h && helps "--explain-all" "$word" -h; done
+for word in post import; do helps "--dry-run --holdings" "$word" -h; done
+helps "--dry-run --gains < sale.ledger" post -h
+helps "--dry-run --sales" import -h
 for word in post import; do
     helps "--rounding Equity:Rounding" "$word" -h
     helps "--within 0.01" "$word" -h

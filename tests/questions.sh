@@ -143,24 +143,18 @@ asked "what moved a commodity, and what was left of it" 0 register --account Ass
 2025-01-08 Assets:Broker -3 HOOL {100 USD, 2024-02-15} left 5 entry 21 Sell, in the new year
 EOT
 
-# what_if NAME: what the sale of this call's standard input would gain. It is posted to a copy, since no call prints the gains of a dry run; one
-# that does goes here. The book stays as it is.
-what_if() {
-    local before other=$scratch/copy.book
-    before=$(kept "$book")
-    "$program" dump --book "$book" </dev/null | "$program" restore --book "$other" >/dev/null 2>&1 || fail "$1" "there is no copy"
-    prints "$1: on a copy" 0 "1 accepted" post --book "$other" --batch try
-    book=$other asked "$1" 0 gains --first 2025-01-31 <<'EOT'
-2025-01-31 Assets:Broker -5 HOOL proceeds 650.00 cost 500.00 gain 150.00 USD
-  -5 HOOL {100 USD, 2024-02-15}
-total gain 150.00 USD
-EOT
-    same "$1: the book is as it was" "$book" "$before"
-}
-what_if "what a sale of the rest would gain" <<'EOT'
+# What the sale of the rest would gain: a dry run tells, and the book stays as it is.
+before=$(kept "$book")
+cat >"$scratch/sale.ledger" <<'EOT'
 2025-01-31 *
   Assets:Broker -5 HOOL {} @ 130 USD
   Assets:Cash 650 USD
   Income:Gains
 EOT
+would='1 accepted
+2025-01-31 Assets:Broker -5 HOOL proceeds 650.00 cost 500.00 gain 150.00 USD
+  -5 HOOL {100 USD, 2024-02-15}
+total gain 150.00 USD'
+prints "what a sale of the rest would gain" 0 "$would" post --book "$book" --batch try --dry-run --gains <"$scratch/sale.ledger"
+same "what a sale of the rest would gain: the book is as it was" "$book" "$before"
 finish

@@ -610,8 +610,9 @@ def codes():
 # ---- the words of the program
 
 
-# What of the options stands in several rows of the table, and is told once, below it.
+# What of the options stands in several rows of the table, or makes one too long: it is told once, below them.
 ROUNDING = "[--rounding ACCOUNT [--within AMOUNT] [--decimals N]]"
+ACCOUNTS = "--invest ACCOUNT --cash ACCOUNT --fees ACCOUNT --gains ACCOUNT"
 
 
 def words():
@@ -623,8 +624,9 @@ def words():
     for comment, name, about in told.findall(text):
         usage = " ".join(line.strip()[2:].strip() for line in comment.splitlines())
         what = re.split(r": lotbook |\\n", about)[0]
-        usage = usage.replace(ROUNDING, "[ROUNDING]").replace("|", "\\|")
+        usage = usage.replace(ROUNDING, "[ROUNDING]").replace(ACCOUNTS, "ACCOUNTS").replace("|", "\\|")
         yield "| %s | %s |" % (usage, what[0].lower() + what[1:])
+    yield "| `ACCOUNTS` | stands for `%s` |" % ACCOUNTS
     yield "| `ROUNDING` | stands for `%s` |" % ROUNDING[1:-1]
 
 

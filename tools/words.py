@@ -142,8 +142,22 @@ def bash_choices(words):
     return offers
 
 
+def bash_mixed(words):
+    """Of each option that has a value behind some words and none behind others: the words behind which it has one."""
+    bare = {it.name for of in words for it in of.options if not it.value}
+    valued = {}
+    for of in words:
+        for it in of.options:
+            if it.value and it.name in bare:
+                valued.setdefault(it.name, []).append(of.name)
+    return valued
+
+
 def bash(whole, words, codes):
-    takes_none = sorted({f"--{it.name}" for of in words for it in of.options if it.value and it.value not in CHOICES and it.name not in FILES})
+    mixed = bash_mixed(words)
+    takes_none = sorted(
+        {f"--{it.name}" for of in words for it in of.options if it.value and it.value not in CHOICES and it.name not in (*FILES, *mixed)}
+    )
     cases = []
     for of in [*words, None]:
         options = [f"--{it.name}" for it in (of or whole).options]
@@ -163,6 +177,8 @@ def bash(whole, words, codes):
         else:
             choices += ["            case $word in", *(f"                {of}) {offer} ;;" for of, offer in offers), "            esac"]
         choices += ["            return", "            ;;"]
+    for name, of in mixed.items():
+        choices += [f"        --{name})", f"            case $word in {' | '.join(of)}) return ;; esac", "            ;;"]
     coded = "\n".join(f'_lotbook_codes+=" {" ".join(codes[at:at + 16])}"' for at in range(0, len(codes), 16)).replace("+=\" ", "=\"", 1)
     return BASH % {
         "notice": NOTICE,

@@ -307,19 +307,22 @@ def compare(program, scratch, seed):
     call(program, ["init", "--book", book])
     subprocess.run([program, "post", "--book", book, "--batch", "r"], input=text, capture_output=True, timeout=600)
     days, ranges = reports.asked(rng, drawing.book)
-    asked = [(["holdings"], holdings(drawing.book, None, seen))]
-    asked += [(["holdings", "--day", day_text(day)], holdings(drawing.book, day, seen)) for day in days]
-    asked += [(["holdings", "--as-of", day_text(day)], holdings(drawing.book, day, seen, day)) for day in days]
-    asked.append((["holdings", "--as-of", day_text(days[0]), "--day", day_text(days[1])], holdings(drawing.book, days[1], seen, days[0])))
-    asked.append((["gains"], gains(drawing.book, reports.FIRST_DAY, reports.LAST_DAY, seen)))
+    held = [([], None, None), (["--as-of", day_text(days[0]), "--day", day_text(days[1])], days[1], days[0])]
+    for day in days:
+        held += [(["--day", day_text(day)], day, None), (["--as-of", day_text(day)], day, day)]
+    asked = [
+        (["holdings", *options], holdings(drawing.book, day, seen, last), reports.unpriced(drawing.book, day, last))
+        for options, day, last in held
+    ]
+    asked.append((["gains"], gains(drawing.book, reports.FIRST_DAY, reports.LAST_DAY, seen), ""))
     for first, last in ranges:
-        asked.append((["gains", "--first", day_text(first), "--last", day_text(last)], gains(drawing.book, first, last, seen)))
+        asked.append((["gains", "--first", day_text(first), "--last", day_text(last)], gains(drawing.book, first, last, seen), ""))
     found = ""
-    for words, records in asked:
+    for words, records, told in asked:
         got = call(program, [words[0], "--book", book, "--format", "csv", *words[1:]])
         wanted = written(records)
-        if got != (wanted, 4 if records == [[reports.BEYOND]] else 0, ""):
-            found += f"--- {' '.join(words)}, wanted\n{wanted}--- got, status {got[1]}\n{got[0]}{got[2]}"
+        if got != (wanted, 4 if records == [[reports.BEYOND]] else 0, told):
+            found += f"--- {' '.join(words)}, wanted\n{wanted}{told}--- got, status {got[1]}\n{got[0]}{got[2]}"
         elif list(csv.reader(io.StringIO(got[0], newline=""))) != records:
             found += f"--- {' '.join(words)} doesn't read back\n{got[0]}"
         elif words[0] == "gains":

@@ -204,7 +204,7 @@ class Sweep:
         after = held(self.other)
         self.stages = [self.tables_of(self.start)]
         word = next((word for word in self.call.words[:1] if not word.startswith("--")), "check")
-        self.replies = sum(line[:1].isdigit() for line in self.lines) if word in ("check", "post", "import") else 0
+        self.replies = sum(line.split(" ")[0].isdigit() for line in self.lines) if word in ("check", "post", "import") else 0
         self.is_run = word != "check" and self.replies > 0 and not KEEPS_NOTHING & {*self.call.words}
         self.is_batch = "--all-or-none" in self.call.words
         if self.is_run:
@@ -430,6 +430,7 @@ def calls_on_a_book(texts, dump, older):
     yield Call("restore of a dump that was changed", RESTORE, dump.replace(b"530", b"531"))
     yield Call("restore of a dump where a book is", RESTORE, dump, [MAKE])
     yield Call("a dry run of the first purchase", [*POST, "--dry-run"], texts["the first purchase"], [MAKE])
+    yield Call("a dry run of a sale, with what it tells", [*POST, "--dry-run", "--gains", "--holdings"], texts["a sale"], [MAKE])
     yield Call("all or none of a text that is refused", [*POST[:-1], "b", "--all-or-none"], texts["the first purchase"], filled)
     yield Call("all or none of a sale", [*POST, "--all-or-none"], texts["a sale"], [MAKE])
     yield Call("migrate a book of edition 1", MIGRATE, file=older)

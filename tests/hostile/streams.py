@@ -385,7 +385,7 @@ def limited_reports(ground, whole):
         for count in some(range(len(report) + 1), whole):
             got = limited(full, words, text, count)
             status = 4 if count < len(report) else ends
-            done.compare(f"{words}, {count} bytes", words[0] if words else "without words", (report[:count], status), got)
+            done.compare(f"{words}, {count} bytes", words[0] if words else "without words", (report[:count], status), got, status == 0 and ("--day" in words or "--as-of" in words))
             done.also(untold(got))
             done.also("" if tables.bytes_of(full.book) == held else f"{words}, {count} bytes: the book changed")
     held = tables.contents(sweep.made(ground.program, os.path.join(ground.scratch, "empty.book")))

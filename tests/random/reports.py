@@ -4,8 +4,8 @@
 
 The plain reports are written from docs/FORMATS.md and docs/RULES.md alone, over the entries of the plain judge: each looks over
 all entries of the book. Each ledger is posted to a new book, in two calls, of which the second finds in the file what the first one
-left; then its holdings, with and without days, those of past days, its gains, whole and in ranges, and its journal are compared,
-byte for byte, and the opening number of each lot in the tables. A case is the ledgers of a hundred seeds, or a kind of row, which has
+left, and before it a dry run of the same tells what it would gain and leave; then its holdings, with and without days, those of past
+days, its gains, whole and in ranges, and its journal are compared, byte for byte, and the opening number of each lot in the tables. A case is the ledgers of a hundred seeds, or a kind of row, which has
 to occur at least some times. A difference goes to standard error, with its seed.
 """
 
@@ -42,6 +42,8 @@ KINDS = (
     "an entry of Opening", "an entry of Closing", "an entry of Declaring", "an entry of Quoting", "an entry of Transaction",
     "a refused command before an entry", "lots of one day in another order than that of their openings",
     "a past day", "a past day with an entry behind a later one",
+    "a dry run with sales behind earlier ones", "a dry run with sales", "a dry run without a sale", "a dry run that tells what it would leave",
+    "a dry run with a refusal", "a dry run with a refusal that keeps all or none",
 )
 
 
@@ -119,6 +121,22 @@ def holdings(book, day, seen, last=None):
         return ["nothing held"]
     lines += [f"total cost {money(costs[currency])} {currency}" for currency in sorted(costs)]
     return lines + [f"total value {money(values[currency])} {currency}" for currency in sorted(values)]
+
+
+def unpriced(book, day, last=None):
+    """What standard error says beside these holdings: how many lots have no price, or nothing."""
+    held, count, costs, values = model.Held(up_to(book, last, collections.Counter())), 0, {}, {}
+    if day is None or is_beyond(held):
+        return ""
+    for pair in held.pairs():
+        for key, units in held.lots_of(pair).items():
+            rate = price_at(book, day, pair[1], key.currency, collections.Counter())
+            sums, each = (costs, key.number) if rate is None else (values, rate)
+            sums[key.currency] = sums.get(key.currency, 0) + units * each
+            count += rate is None
+    cost, value = (", ".join(f"{money(sums[currency])} {currency}" for currency in sorted(sums)) for sums in (costs, values))
+    told = f"lotbook: warning: lots without a price in their currency at {day_text(day)}: {count}, total cost {cost}; total value of the others: {value or 'none'}\n"
+    return told if count else ""
 
 
 # Gains.
@@ -270,9 +288,16 @@ def openings(book, seen):
 # Comparing.
 
 
-def call(program, words, text=b""):
+def answer(program, words, text=b""):
+    """What a call prints, its status, and what it says on standard error."""
     done = subprocess.run([program, *words], input=text, capture_output=True, timeout=600)
-    return done.stdout.decode(), done.returncode, notes.without(done.stderr).decode()
+    return done.stdout.decode(), done.returncode, done.stderr.decode()
+
+
+def call(program, words, text=b""):
+    """The same without the notes on standard error."""
+    printed, status, said = answer(program, words, text)
+    return printed, status, notes.without(said.encode()).decode()
 
 
 def quote_more(rng, drawing):
@@ -293,6 +318,28 @@ def asked(rng, book):
     return rng.sample([rng.choice(days), rng.choice(days), FIRST_DAY, LAST_DAY], 2), rng.sample(ranges, 3)
 
 
+def told(rng, drawing, at, seen):
+    """Options of a dry run of what is behind the first commands, and what it prints: the replies, and of the book that it would leave the
+    gains of the entries that it would add, and what is held."""
+    options = rng.choice((["--gains"], ["--holdings"], ["--gains", "--holdings"])) + rng.choice(([], [], ["--all-or-none"]))
+    lines = [model.reply(number, it.refused) for number, it in enumerate(drawing.judged, 1)][at:]
+    refused = any(it.refused is not None for it in drawing.judged[at:])
+    before = sum(it.entry is not None for it in drawing.judged[:at])
+    left = drawing.book[:before] if refused and "--all-or-none" in options else drawing.book
+    if "--gains" in options:
+        added = gains(left[before:], FIRST_DAY, LAST_DAY, collections.Counter())
+        seen["a dry run without a sale" if added == ["no gains"] else "a dry run with sales"] += 1
+        earlier = any(booked.reduces for entry in left[:before] for booked in entry.booked)
+        seen["a dry run with sales behind earlier ones"] += earlier and added != ["no gains"]
+        lines += added
+    if "--holdings" in options:
+        lines += holdings(left, None, collections.Counter())
+        seen["a dry run that tells what it would leave"] += 1
+    seen["a dry run with a refusal"] += refused
+    seen["a dry run with a refusal that keeps all or none"] += refused and "--all-or-none" in options
+    return options, lines, int(refused)
+
+
 def compare(program, scratch, seed):
     """How the reports of a drawn ledger differ, or nothing; and what occurs in them, each kind once."""
     drawing = draw.small(seed)
@@ -304,29 +351,39 @@ def compare(program, scratch, seed):
     book = os.path.join(scratch, f"drawn-{seed}.book")
     call(program, ["init", "--book", book])
     calls = (["--from", "1"], begun), (["--from", str(at + 1)], text)
-    posted = [call(program, ["post", "--book", book, "--batch", "r", *words], part) for words, part in calls]
-    replies, messages = ("".join(answer[which] for answer in posted) for which in (0, 2))
+    post = ["post", "--book", book, "--batch", "r"]
+    posted = [call(program, post + calls[0][0], calls[0][1])]
+    options, would, status = told(random.Random(f"told {seed}"), drawing, at, seen)
+    tried = call(program, [*post, *calls[1][0], "--dry-run", *options], text)
+    posted.append(call(program, post + calls[1][0], calls[1][1]))
+    replies, messages = ("".join(part[which] for part in posted) for which in (0, 2))
     wanted = [model.reply(number, it.refused) for number, it in enumerate(drawing.judged, 1)]
-    cases = [(["post"], wanted, (replies, 0, messages))]
+    cases = [(["post"], wanted, "", (replies, 0, messages))]
     days, ranges = asked(rng, drawing.book)
-    reports = [(["holdings"], holdings(drawing.book, None, seen)), (["journal"], journal(drawing.judged, seen))]
-    reports += [(["holdings", "--day", day_text(day)], holdings(drawing.book, day, seen)) for day in days]
-    reports += [(["holdings", "--as-of", day_text(day)], holdings(drawing.book, day, seen, day)) for day in days]
-    words = ["holdings", "--as-of", day_text(days[0]), "--day", day_text(days[1])]
-    reports.append((words, holdings(drawing.book, days[1], seen, days[0])))
+    held = [([], None, None), (["--as-of", day_text(days[0]), "--day", day_text(days[1])], days[1], days[0])]
+    for day in days:
+        held += [(["--day", day_text(day)], day, None), (["--as-of", day_text(day)], day, day)]
+    reports = [
+        (["holdings", *options], holdings(drawing.book, day, seen, last), unpriced(drawing.book, day, last))
+        for options, day, last in held
+    ]
+    reports.append((["journal"], journal(drawing.judged, seen), ""))
     for first, last in ranges:
-        reports.append((["gains", "--first", day_text(first), "--last", day_text(last)], gains(drawing.book, first, last, seen)))
-    reports.append((["gains"], gains(drawing.book, FIRST_DAY, LAST_DAY, seen)))
-    for words, lines in reports:
-        cases.append((words, lines, call(program, [words[0], "--book", book, *words[1:]])))
+        reports.append((["gains", "--first", day_text(first), "--last", day_text(last)], gains(drawing.book, first, last, seen), ""))
+    reports.append((["gains"], gains(drawing.book, FIRST_DAY, LAST_DAY, seen), ""))
+    for words, lines, noted in reports:
+        cases.append((words, lines, noted, answer(program, [words[0], "--book", book, *words[1:]])))
     numbers = "".join(line + "\n" for line in tables.openings(book))
-    cases.append((["the table opening"], openings(drawing.book, seen), (numbers, 0, "")))
+    cases.append((["the table opening"], openings(drawing.book, seen), "", (numbers, 0, "")))
     tables.removed(book)
     found = ""
-    for words, lines, got in cases:
+    report = "".join(line + "\n" for line in would)
+    if tried != (report, status, ""):
+        found += f"--- post --from {at + 1} --dry-run {' '.join(options)}, wanted\n{report}--- got, status {tried[1]}\n{tried[0]}{tried[2]}"
+    for words, lines, noted, got in cases:
         report = "".join(line + "\n" for line in lines)
-        if got != (report, 4 if lines == [BEYOND] else 0, ""):
-            found += f"--- {' '.join(words)}, wanted\n{report}--- got, status {got[1]}\n{got[0]}{got[2]}"
+        if got != (report, 4 if lines == [BEYOND] else 0, noted):
+            found += f"--- {' '.join(words)}, wanted\n{report}{noted}--- got, status {got[1]}\n{got[0]}{got[2]}"
     return found and text.decode() + found, collections.Counter(kind for kind in seen if seen[kind])
 
 

@@ -1,10 +1,10 @@
 -- What the values of options say, and which of them is outside its rule.
 use Rattle.std.proofs.Common.{◌≡◌, ℕ, zero, suc, ◌<◌, ◌≤◌, Bool, true, false, List, [], ◌∷◌, ◌++◌, ◌∙◌, ap, sym, length, get_or, drop, Option, Some, None, Err, Ok, ℤ, pos, refl, arith, codes}
-use Rattle.std.specs.Prelude.{IsTrue, Result, SomeIff, map, nat_le, option_and_then, unwrap_or}
+use Rattle.std.specs.Prelude.{◌&&◌, ◌||◌, not, IsTrue, Result, SomeIff, map, nat_le, option_and_then, unwrap_or}
 use Rattle.std.specs.Borrow.{Bor}
 use Rattle.std.specs.List.{list_all}
 use Rattle.std.specs.Result.{result_ok}
-use Rattle.std.proofs.lemmas.Bool.{le-leb, leb-true}
+use Rattle.std.proofs.lemmas.Bool.{le-leb, leb-true, true≢false}
 use Rattle.std.proofs.lemmas.Int.{ints}
 use Rattle.clap.specs.Words.{Row}
 use Rattle.clap.proofs.WalkLemmas.{both}
@@ -14,11 +14,12 @@ use Rattle.lot_num.specs.NumberText.{as_units, read_below, total_of, with_no_sig
 use Rattle.lot_num.specs.declared.number_text.NumberFault.{NumberFault}
 use Rattle.lot_rounding.specs.Nearest.{most_decimals}
 use Rattle.lot_rounding.specs.Rounding.{IsBound}
-use Rattle.lot_args.specs.Options.{account_options, except_of, first_bad, is_good, options_of, rounding_options}
+use Rattle.lot_args.specs.Batch.{is_batch}
+use Rattle.lot_args.specs.Options.{account_options, except_of, first_bad, has_profile, is_good, is_shown, options_of, rounding_options, speaks_of_book, value_of}
 use Rattle.lot_args.specs.Rounding.{as_bound, decimals_at, named_bound}
 use Rattle.lot_args.specs.Start.{IsStart, greatest_start, is_start, start_at}
 use Rattle.lot_args.specs.declared.fault.BadOption.{BadOption}
-use Rattle.lot_args.specs.declared.fault.BadOption.TheVariants.{Batch, Except, From, KeepAccepted, Show}
+use Rattle.lot_args.specs.declared.fault.BadOption.TheVariants.{Batch, Except, From, Holdings, KeepAccepted, Sales, Show}
 
 -- ---- the start
 
@@ -115,9 +116,19 @@ good_alone rows option e = go (is_good rows option) refl
     go true is = is
     go false is = let bad : Some option ≡ None = rw is at e in cc
 
+-- a batch is good where it is looked at: an import without a profile isn't shown
+pub batch_of_shown : (shown profile book good : Bool) → profile ≡ false → (not shown || (profile && not book)) ≡ true
+    → (shown || good) ≡ true → good ≡ true
+batch_of_shown false profile book good plain show batch = batch
+batch_of_shown true true book good plain show batch = absurd (true≢false plain)
+batch_of_shown true false book good plain show batch = absurd (true≢false (sym show))
+
 -- what an import's options are, of which none is bad
+abbrev behind_rounding : List BadOption
+behind_rounding = Sales ∷ Holdings ∷ From ∷ []
+
 abbrev behind_accounts : List BadOption
-behind_accounts = Except ∷ (rounding_options ++ From ∷ [])
+behind_accounts = Except ∷ (rounding_options ++ behind_rounding)
 
 module _ (rows : List Row) (good : first_bad rows (options_of (codes "import")) ≡ None) where
   from_accounts : (first_bad rows account_options ≡ None) × (first_bad rows behind_accounts ≡ None)
@@ -127,13 +138,21 @@ module _ (rows : List Row) (good : first_bad rows (options_of (codes "import")) 
   pub good_accounts : first_bad rows account_options ≡ None
   good_accounts = from_accounts.0
 
+  pub good_batch : has_profile rows ≡ false → IsTrue (is_batch (value_of (codes "batch") rows))
+  good_batch plain =
+      let first = (none_of_both rows (Show ∷ KeepAccepted ∷ Batch ∷ []) (account_options ++ behind_accounts) good).0 in
+      let both = none_of_both rows (Show ∷ []) (KeepAccepted ∷ Batch ∷ []) first in
+      let last = (none_of_both rows (KeepAccepted ∷ []) (Batch ∷ []) both.1).1 in
+      batch_of_shown (is_shown rows) (has_profile rows) (speaks_of_book rows) (is_batch (value_of (codes "batch") rows)) plain
+      (good_alone rows Show both.0) (good_alone rows Batch last)
+
   pub good_except : IsTrue (list_all is_label (except_of rows))
-  good_except = good_alone rows Except (none_of_both rows (Except ∷ []) (rounding_options ++ From ∷ []) from_accounts.1).0
+  good_except = good_alone rows Except (none_of_both rows (Except ∷ []) (rounding_options ++ behind_rounding) from_accounts.1).0
 
   pub good_rounding : first_bad rows rounding_options ≡ None
   good_rounding =
-      (none_of_both rows rounding_options (From ∷ [])
-      (none_of_both rows (Except ∷ []) (rounding_options ++ From ∷ []) from_accounts.1).1).0
+      (none_of_both rows rounding_options behind_rounding
+      (none_of_both rows (Except ∷ []) (rounding_options ++ behind_rounding) from_accounts.1).1).0
 
 -- the option at a place, and those from there on
 pub bad_here : (rows : List Row) (options : List BadOption) (i : ℕ) (none : BadOption) → i < length options

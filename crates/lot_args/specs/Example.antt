@@ -6,7 +6,8 @@ use Rattle.lot_args.specs.Program.{program_app}
 use Rattle.lot_args.specs.From.{from_of}
 use Rattle.lot_args.specs.Rounding.{rounding_of}
 use Rattle.lot_rounding.specs.declared.rounding.Rounding.{Rounding}
-use Rattle.lot_args.specs.Words.{effect_of, keeping_by_profile, keeping_of, notes_of, strictness_of, tolerance_of, without_of}
+use Rattle.lot_args.specs.Preview.{effect_of}
+use Rattle.lot_args.specs.Words.{keeping_by_profile, keeping_of, notes_of, strictness_of, tolerance_of, without_of}
 use Rattle.lot_without.specs.declared.terms.Strictness.{Strictness}
 use Rattle.lot_without.specs.declared.terms.Tolerance.{Tolerance}
 use Rattle.lot_without.specs.declared.without.Without.{Without}
@@ -24,6 +25,23 @@ a_dry_run =
     codes "lotbook" ∷ codes "--quiet" ∷ codes "import" ∷ codes "--book" ∷ codes "f" ∷ codes "--batch" ∷ codes "a"
     ∷ codes "--invest" ∷ codes "A:B" ∷ codes "--cash" ∷ codes "A:B" ∷ codes "--fees" ∷ codes "A:B" ∷ codes "--gains" ∷ codes "A:B"
     ∷ codes "--dry-run" ∷ codes "--all-or-none" ∷ []
+
+-- lotbook post --book f --batch a --dry-run --gains --holdings --all-or-none
+abbrev pub a_previewed_post : List Text
+a_previewed_post =
+    codes "lotbook" ∷ codes "post" ∷ codes "--book" ∷ codes "f" ∷ codes "--batch" ∷ codes "a" ∷ codes "--dry-run" ∷ codes "--gains"
+    ∷ codes "--holdings" ∷ codes "--all-or-none" ∷ []
+
+-- lotbook import --book f --batch a --profile p --dry-run --sales
+abbrev pub a_previewed_import : List Text
+a_previewed_import =
+    codes "lotbook" ∷ codes "import" ∷ codes "--book" ∷ codes "f" ∷ codes "--batch" ∷ codes "a" ∷ codes "--profile" ∷ codes "p"
+    ∷ codes "--dry-run" ∷ codes "--sales" ∷ []
+
+-- lotbook post --book f --batch a --gains --holdings
+abbrev pub a_kept_preview : List Text
+a_kept_preview =
+    codes "lotbook" ∷ codes "post" ∷ codes "--book" ∷ codes "f" ∷ codes "--batch" ∷ codes "a" ∷ codes "--gains" ∷ codes "--holdings" ∷ []
 
 -- lotbook post --book f --batch a --explain-all --all-or-none
 abbrev pub a_whole_post : List Text
@@ -129,8 +147,12 @@ a_bad_restore =
 -- what a call of a word may leave in the book, which commits keep it, and what it explains
 abbrev pub flags_of : List Text → Option (Effect × Keeping × Notes)
 flags_of words =
-    option_map (λ asked. (effect_of asked.1, keeping_of asked.1, notes_of (matches_of program_app words) asked.1))
+    option_map (λ asked. (effect_of asked.0 asked.1, keeping_of asked.0 asked.1, notes_of (matches_of program_app words) asked.1))
     (subcommand_of program_app words)
+
+-- what a call of a word may leave in the book, and which commits keep the rows of an import by a profile
+abbrev pub previewed_of : Option (Text × List Row) → Option (Effect × Keeping)
+previewed_of = option_map (λ asked. (effect_of asked.0 asked.1, keeping_by_profile asked.1))
 
 -- a word with the references of the rows that it leaves out, and the number of its first row
 abbrev pub left_out_of : Option (Text × List Row) → Option (Text × List Text × ℕ)

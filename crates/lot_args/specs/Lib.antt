@@ -9,6 +9,7 @@ pub mod Table
 pub mod Keys
 pub mod Activity
 pub mod Options
+pub mod Preview
 pub mod Faults
 pub mod Words
 pub mod Steps

@@ -17,7 +17,7 @@ use Rattle.lot_without.specs.declared.value.By.TheVariants.{Key, Batch as ByBatc
 use Rattle.lot_args.specs.declared.fault.BadOption.{BadOption}
 use Rattle.lot_args.specs.declared.fault.Needed.{Needed}
 use Rattle.lot_args.specs.declared.fault.Needed.TheVariants.{Accounts, Book, BatchOrRow}
-use Rattle.lot_args.specs.declared.fault.BadOption.TheVariants.{Show, KeepAccepted, Batch, PostBatch, RowOf, Ref, From, Invest, Cash, Fees, Gains, Except, Rounding, Within, Decimals, Account, Commodity, Day, AsOf, First, Last, By, Period, Format, Without, WithoutBatch, WithoutEntries}
+use Rattle.lot_args.specs.declared.fault.BadOption.TheVariants.{Show, KeepAccepted, Batch, PostBatch, RowOf, Ref, From, Invest, Cash, Fees, Gains, Except, Rounding, Within, Decimals, PostGains, Sales, Holdings, Account, Commodity, Day, AsOf, First, Last, By, Period, Format, Without, WithoutBatch, WithoutEntries}
 
 -- ---- values
 
@@ -56,6 +56,9 @@ name_of Except = codes "except"
 name_of Rounding = codes "rounding"
 name_of Within = codes "within"
 name_of Decimals = codes "decimals"
+name_of PostGains = codes "gains"
+name_of Sales = codes "sales"
+name_of Holdings = codes "holdings"
 name_of Account = codes "account"
 name_of Commodity = codes "commodity"
 name_of Day = codes "day"
@@ -127,6 +130,10 @@ names_entries by text = is_some (named by text)
 abbrev pub all_name_entries : ByWhat → Text → List Row → Bool
 all_name_entries by name rows = list_all (names_entries by) (values_of name rows)
 
+-- whether an option that asks what is told of a dry run is within its rule: it is given with `--dry-run` alone
+abbrev pub is_good_preview : Text → List Row → Bool
+is_good_preview name rows = not (is_set name rows) || is_set (codes "dry-run") rows
+
 -- whether the value of the option is within its rule: of a post for a row `--batch` isn't given and `--from` is 1; `--ref` is
 -- given with `--row-of` alone, `--within` and `--decimals` with `--rounding` alone. `--show` and `--keep-accepted` are given with
 -- `--profile` alone, `--show` without what is kept in a book, and `--keep-accepted` without `--all-or-none`. With `--profile`
@@ -147,6 +154,9 @@ is_good rows Except = list_all is_label (except_of rows)
 is_good rows Rounding = not (has_rounding rows) || (not (has_profile rows) && has_account (codes "rounding") rows)
 is_good rows Within = if has_rounding rows then has_bound rows else not (is_given (codes "within") rows)
 is_good rows Decimals = has_rounding rows || not (is_given (codes "decimals") rows)
+is_good rows PostGains = is_good_preview (codes "gains") rows
+is_good rows Sales = is_good_preview (codes "sales") rows
+is_good rows Holdings = is_good_preview (codes "holdings") rows
 is_good rows Account = option_map_or names_account (first_of (codes "account") rows) true
 is_good rows Commodity = option_map_or is_commodity (first_of (codes "commodity") rows) true
 is_good rows Day = has_day (codes "day") rows
@@ -172,9 +182,9 @@ rounding_options = Rounding ∷ Within ∷ Decimals ∷ []
 -- the options of a word whose values have a rule of ours, in the order of the table of words in docs/RULES.md
 abbrev pub options_of : Text → List BadOption
 options_of word =
-    if bytes_eq word (codes "post") then PostBatch ∷ RowOf ∷ Ref ∷ (rounding_options ++ From ∷ [])
+    if bytes_eq word (codes "post") then PostBatch ∷ RowOf ∷ Ref ∷ (rounding_options ++ PostGains ∷ Holdings ∷ From ∷ [])
     else (if bytes_eq word (codes "import")
-    then Show ∷ KeepAccepted ∷ Batch ∷ (account_options ++ Except ∷ (rounding_options ++ From ∷ []))
+    then Show ∷ KeepAccepted ∷ Batch ∷ (account_options ++ Except ∷ (rounding_options ++ Sales ∷ Holdings ∷ From ∷ []))
     else (if bytes_eq word (codes "holdings") then AsOf ∷ Day ∷ Format ∷ []
     else (if bytes_eq word (codes "gains") then First ∷ Last ∷ By ∷ Format ∷ []
     else (if bytes_eq word (codes "register") then Account ∷ Commodity ∷ First ∷ Last ∷ Format ∷ []

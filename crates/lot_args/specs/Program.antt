@@ -56,18 +56,20 @@ migrate_app = book_app (codes "migrate") (flag_rule (codes "dry-run") ∷ [])
 abbrev pub rounding_rules : List Rule
 rounding_rules = option_rule (codes "rounding") ∷ option_rule (codes "within") ∷ decimals_rule ∷ []
 
--- the options of a word whose commands are judged one after another
-abbrev pub run_rules : List Rule
-run_rules =
-    rounding_rules ++ flag_rule (codes "dry-run") ∷ flag_rule (codes "all-or-none") ∷ flag_rule (codes "explain-all") ∷ []
+-- the options of a word whose commands are judged one after another, with the one that asks for the gains of a dry run
+abbrev pub run_rules : Text → List Rule
+run_rules gains =
+    rounding_rules ++ flag_rule (codes "dry-run") ∷ flag_rule gains ∷ flag_rule (codes "holdings")
+    ∷ flag_rule (codes "all-or-none") ∷ flag_rule (codes "explain-all") ∷ []
 
-abbrev pub run_app : Text → List Rule → App
-run_app name rules = with_rules (book_app name rules) run_rules
+abbrev pub run_app : Text → List Rule → Text → App
+run_app name rules gains = with_rules (book_app name rules) (run_rules gains)
 
 abbrev pub post_app : App
 post_app =
     run_app (codes "post")
     (option_rule (codes "batch") ∷ option_rule (codes "row-of") ∷ option_rule (codes "ref") ∷ from_rule ∷ [])
+    (codes "gains")
 
 -- which options an import needs, its other options say
 abbrev pub import_rules : List Rule
@@ -75,7 +77,7 @@ import_rules =
     option_rule (codes "book") ∷ flag_rule (codes "quiet") ∷ option_rule (codes "batch") ∷ option_rule (codes "profile")
     ∷ option_rule (codes "invest") ∷ option_rule (codes "cash") ∷ option_rule (codes "fees") ∷ option_rule (codes "gains")
     ∷ from_rule ∷ repeated_rule (codes "except")
-    ∷ (run_rules ++ flag_rule (codes "keep-accepted") ∷ flag_rule (codes "show") ∷ [])
+    ∷ (run_rules (codes "sales") ++ flag_rule (codes "keep-accepted") ∷ flag_rule (codes "show") ∷ [])
 
 abbrev pub import_app : App
 import_app = word_app (codes "import") import_rules

@@ -16,13 +16,14 @@ use Rattle.lot_args.specs.Activity.{length_of}
 use Rattle.lot_args.specs.From.{from_of}
 use Rattle.lot_args.specs.Keys.{keys_of}
 use Rattle.lot_args.specs.Options.{day_of, except_of, first_bad, has_profile, has_row, is_given, is_set, is_shown, misplaced, missing_of, options_of, rounding_options, value_of, values_of}
+use Rattle.lot_args.specs.Preview.{effect_of}
 use Rattle.lot_args.specs.Program.{program_app}
 use Rattle.lot_args.specs.Rounding.{rounding_of}
 use Rattle.lot_args.specs.declared.action.Action.{Action}
 use Rattle.lot_args.specs.declared.action.AskedImport.{AskedImport}
 use Rattle.lot_args.specs.declared.action.Action.TheVariants.{Check, Init, Migrate, Post, PostRow, Import, ImportBy, Report as Reporting, Reconcile, Restore, Verify}
 use Rattle.lot_args.specs.declared.action.Report.{Report}
-use Rattle.lot_args.specs.declared.action.Report.TheVariants.{Holdings, HoldingsOn, Gains, GainsBy, Register, Activity, Journal, Dump}
+use Rattle.lot_args.specs.declared.action.Report.TheVariants.{Holdings, HoldingsOn, Gains, GainsBy, AddedGains, Register, Activity, Journal, Dump}
 use Rattle.lot_args.specs.declared.action.Format.{Format}
 use Rattle.lot_args.specs.declared.action.Format.TheVariants.{Text as AsText, Csv}
 use Rattle.lot_args.specs.declared.action.Keeping.{Keeping}
@@ -33,6 +34,8 @@ use Rattle.lot_args.specs.declared.fault.BadOption.{BadOption}
 use Rattle.lot_args.specs.declared.fault.Needed.{Needed}
 use Rattle.lot_args.specs.declared.request.Effect.{Effect}
 use Rattle.lot_args.specs.declared.request.Effect.TheVariants.{DryRun, Keep}
+use Rattle.lot_args.specs.declared.request.Preview.{Preview}
+use Rattle.lot_args.specs.declared.request.Preview.TheVariants as preview
 use Rattle.lot_args.specs.declared.request.Notes.{Notes}
 use Rattle.lot_args.specs.declared.request.Notes.TheVariants.{All, Quiet, Ten}
 use Rattle.lot_args.specs.declared.request.Request.{Request}
@@ -66,21 +69,24 @@ without_of rows =
 
 -- ---- options without a value
 
--- what the call may leave in the book
-abbrev pub effect_of : List Row → Effect
-effect_of rows = if is_set (codes "dry-run") rows then DryRun else Keep
+-- which commits keep the commands of a dry run, where these are asked for: one for each where nothing is told of the book after it
+abbrev pub keeping_told : Preview → Keeping → Keeping
+keeping_told preview.Nothing asked = Each
+keeping_told preview.Gains asked = asked
+keeping_told preview.Holdings asked = asked
+keeping_told preview.GainsAndHoldings asked = asked
 
--- which commits keep its commands: a dry run has none
-abbrev pub keeping_of : List Row → Keeping
-keeping_of rows =
-    if is_set (codes "dry-run") rows then Each
-    else (if is_set (codes "all-or-none") rows then AllOrNone else Each)
+abbrev pub keeping_in : Effect → Keeping → Keeping
+keeping_in Keep asked = asked
+keeping_in (DryRun told) asked = keeping_told told asked
 
--- which commits keep the commands of an import by a profile: one for all, where nothing is said
+-- which commits keep the commands of a call of the word
+abbrev pub keeping_of : Text → List Row → Keeping
+keeping_of word rows = if is_set (codes "all-or-none") rows then keeping_in (effect_of word rows) AllOrNone else Each
+
+-- which commits keep those of an import by a profile: one for all, where nothing is said
 abbrev pub keeping_by_profile : List Row → Keeping
-keeping_by_profile rows =
-    if is_set (codes "dry-run") rows then Each
-    else (if is_set (codes "keep-accepted") rows then Each else AllOrNone)
+keeping_by_profile rows = if is_set (codes "keep-accepted") rows then Each else keeping_in (effect_of (codes "import") rows) AllOrNone
 
 -- what is written of a verified book
 abbrev pub saying_of : List Row → Saying
@@ -123,6 +129,7 @@ AsksForReport word rows (Gains first last format) =
 AsksForReport word rows (GainsBy first last by format) =
     (word ≡ codes "gains") × (is_given (codes "by") rows ≡ true) × (first ≡ day_of (codes "first") rows)
     × (last ≡ day_of (codes "last") rows) × (by.items ≡ keys_of rows) × (format ≡ format_of rows)
+AsksForReport word rows (AddedGains behind) = ⊥
 AsksForReport word rows (Register account commodity first last format) =
     (word ≡ codes "register") × (string_bytes account ≡ value_of (codes "account") rows)
     × (commodity ≡ first_of (codes "commodity") rows) × (first ≡ day_of (codes "first") rows)
@@ -141,14 +148,14 @@ WordAsks word rows (Migrate book) = (word ≡ codes "migrate") × IsBook rows (s
 WordAsks word rows (Post post) =
     (word ≡ codes "post") × (has_row rows ≡ false) × IsBook rows (string_bytes post.book)
     × (post.batch ≡ value_of (codes "batch") rows) × (post.from ≡ from_of rows) × (post.rounding ≡ rounding_of rows)
-    × (post.keeping ≡ keeping_of rows)
+    × (post.keeping ≡ keeping_of word rows)
 WordAsks word rows (PostRow book batch reference rounding) =
     (word ≡ codes "post") × (has_row rows ≡ true) × IsBook rows (string_bytes book)
     × (batch ≡ value_of (codes "row-of") rows) × (reference ≡ value_of (codes "ref") rows) × (rounding ≡ rounding_of rows)
 WordAsks word rows (Import import) =
     (word ≡ codes "import") × (has_profile rows ≡ false) × IsBook rows (string_bytes import.book) × (import.batch ≡ value_of (codes "batch") rows)
     × (import.accounts ≡ accounts_of rows) × (import.from ≡ from_of rows) × (import.except.items ≡ except_of rows)
-    × (import.rounding ≡ rounding_of rows) × (import.keeping ≡ keeping_of rows)
+    × (import.rounding ≡ rounding_of rows) × (import.keeping ≡ keeping_of word rows)
 WordAsks word rows (ImportBy import) = ⊥
 WordAsks word rows (Reporting book report) = IsBook rows (string_bytes book) × AsksForReport word rows report
 WordAsks word rows (Reconcile asked) =
@@ -180,10 +187,10 @@ AsksToImport rows import =
 -- a word with the values of its options, and with those before it, asks for this
 abbrev pub WordRequests : List Row → Text → List Row → Request → Type 0
 WordRequests before word rows (Act action effect notes) =
-    WordAsks word rows action × (effect ≡ effect_of rows) × (notes ≡ notes_of before rows)
+    WordAsks word rows action × (effect ≡ effect_of word rows) × (notes ≡ notes_of before rows)
 WordRequests before word rows (ImportRows profile import effect notes) =
     (word ≡ codes "import") × (is_shown rows ≡ false) × IsProfile rows (string_bytes profile) × AsksToImport rows import
-    × (effect ≡ effect_of rows) × (notes ≡ notes_of before rows)
+    × (effect ≡ effect_of word rows) × (notes ≡ notes_of before rows)
 WordRequests before word rows (Show profile notes) =
     (word ≡ codes "import") × (is_shown rows ≡ true) × IsProfile rows (string_bytes profile) × (notes ≡ notes_of before rows)
 WordRequests before word rows (Explain code) = (word ≡ codes "explain") × IsCode rows (option_map string_bytes code)

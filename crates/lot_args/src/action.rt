@@ -168,6 +168,10 @@ pub enum Report {
         by: Vec<GainKey>,
         format: Format,
     },
+    /// What the sales of the entries behind that number of them gained, as lines to be read. No subcommand asks for it.
+    AddedGains {
+        behind: u32,
+    },
     /// The legs of an account in the order of days, from the first day to the last, both included, each with what is left behind
     /// it. Without a day that end of the range is open. With a colon at its end the account stands for every account whose name
     /// begins with it. With a commodity, those of that one alone.

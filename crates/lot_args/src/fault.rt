@@ -39,6 +39,12 @@ pub enum BadOption {
     Within,
     /// `--decimals`: `--rounding` isn't given.
     Decimals,
+    /// `--gains` of `post`: `--dry-run` isn't given.
+    PostGains,
+    /// `--sales`: `--dry-run` isn't given.
+    Sales,
+    /// `--holdings`: `--dry-run` isn't given.
+    Holdings,
     /// `--account`: its value is neither an account nor what accounts begin with, up to a colon.
     Account,
     /// `--commodity`: its value isn't a commodity.
@@ -80,11 +86,13 @@ impl BadOption {
             BadOption::Invest => "invest",
             BadOption::Cash => "cash",
             BadOption::Fees => "fees",
-            BadOption::Gains => "gains",
+            BadOption::Gains | BadOption::PostGains => "gains",
             BadOption::Except => "except",
             BadOption::Rounding => "rounding",
             BadOption::Within => "within",
             BadOption::Decimals => "decimals",
+            BadOption::Sales => "sales",
+            BadOption::Holdings => "holdings",
             BadOption::Account => "account",
             BadOption::Commodity => "commodity",
             BadOption::Day => "day",

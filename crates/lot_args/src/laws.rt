@@ -8,17 +8,19 @@ ghost use Rattle.lot_args.specs.Example.{a_rounded_check, a_rounded_post, a_row,
 ghost use Rattle.lot_args.specs.Example.{a_profile_with_a_start, a_profile_with_an_account, a_shown_book};
 ghost use Rattle.lot_args.specs.Example.{a_shown_import, an_import_by_profile, an_import_of_accepted};
 ghost use Rattle.lot_args.specs.Example.{an_import_without_batch, an_import_without_gains, profile_of, shown_of};
+ghost use Rattle.lot_args.specs.Example.{a_kept_preview, a_previewed_import, a_previewed_post, previewed_of};
 ghost use Rattle.lot_args.specs.Example.{flags_of, parts_of, row_of, word_crumbs_of};
 ghost use Rattle.lot_args.specs.Program.{program_app};
 ghost use Rattle.lot_args.specs.Required.{demanding_app};
 ghost use Rattle.lot_args.specs.Rounding.{rounding_of};
 ghost use Rattle.lot_args.specs.Words.{bad_by, misplaced_by, missing_by};
-ghost use Rattle.lot_args.specs.declared.fault.BadOption.TheVariants.{Except, From, Gains, Rounding, Show, WithoutEntries};
+ghost use Rattle.lot_args.specs.declared.fault.BadOption.TheVariants.{Except, From, Gains as GainsAccount, PostGains, Rounding, Show, WithoutEntries};
 ghost use Rattle.lot_args.specs.declared.fault.Needed.TheVariants.{Accounts, Book};
 ghost use Rattle.lot_rounding.specs.Rounding.{half_a_cent};
 ghost use Rattle.lot_args.specs.declared.action.Keeping.TheVariants.{AllOrNone, Each};
 ghost use Rattle.lot_args.specs.declared.request.Effect.TheVariants.{DryRun, Keep};
 ghost use Rattle.lot_args.specs.declared.request.Notes.TheVariants.{All, Quiet, Ten};
+ghost use Rattle.lot_args.specs.declared.request.Preview.TheVariants.{Gains, GainsAndHoldings, Nothing};
 ghost use Rattle.lot_without.specs.Value.{under};
 ghost use Rattle.lot_without.specs.declared.terms.Strictness.TheVariants.{Edited, Unchanged};
 ghost use Rattle.lot_without.specs.declared.terms.Tolerance.TheVariants.{AllAccepted, KeepGoing};
@@ -36,9 +38,25 @@ pub fn a_post_names_its_parts()
 /// `--quiet`, the other `--all-or-none` and `--explain-all`.
 pub fn options_without_a_value_are_met()
     ensures dry { takes program_app a_dry_run ≡ true }
-    ensures dry_flags { flags_of a_dry_run ≡ Some (DryRun, Each, Quiet) }
+    ensures dry_flags { flags_of a_dry_run ≡ Some (DryRun Nothing, Each, Quiet) }
     ensures whole { takes program_app a_whole_post ≡ true }
     ensures whole_flags { flags_of a_whole_post ≡ Some (Keep, AllOrNone, All) }
+{}
+
+/// `clap` accepts two dry runs that tell of the book which they would leave: a `post` with `--gains --holdings --all-or-none`, and an
+/// import by a profile with `--sales`. Their values are within their rules, and they say this: both keep all or none. Without
+/// `--dry-run`, `--gains` is the first option of such a `post` with a bad value.
+pub fn a_dry_run_tells_what_it_would_leave()
+    ensures taken { takes program_app a_previewed_post ≡ true }
+    ensures good { bad_by a_previewed_post ≡ None }
+    ensures says { flags_of a_previewed_post
+        ≡ Some (DryRun GainsAndHoldings, AllOrNone, Ten) }
+    ensures import_taken { takes program_app a_previewed_import ≡ true }
+    ensures import_good { bad_by a_previewed_import ≡ None }
+    ensures import_says { previewed_of (subcommand_of program_app a_previewed_import)
+        ≡ Some (DryRun Gains, AllOrNone) }
+    ensures kept_taken { takes program_app a_kept_preview ≡ true }
+    ensures bad { bad_by a_kept_preview ≡ Some PostGains }
 {}
 
 /// `clap` accepts an import with `--except r --except s --from 7`. Its values are within their rules, and these are the references
@@ -110,7 +128,7 @@ pub fn an_import_is_shown_without_a_book()
 /// value, since the profile names the accounts. Without it `--from` is.
 pub fn a_profile_stands_in_place_of_accounts()
     ensures taken { takes program_app a_profile_with_an_account ≡ true }
-    ensures account { bad_by a_profile_with_an_account ≡ Some Gains }
+    ensures account { bad_by a_profile_with_an_account ≡ Some GainsAccount }
     ensures start_taken { takes program_app a_profile_with_a_start ≡ true }
     ensures start { bad_by a_profile_with_a_start ≡ Some From }
 {}

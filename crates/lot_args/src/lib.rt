@@ -31,7 +31,7 @@ pub use action::{
 };
 pub use batch::Batch;
 pub use fault::{BadOption, Needed, WordsFault};
-pub use request::{Effect, Notes, Request};
+pub use request::{Effect, Notes, Preview, Request};
 pub use required::require_options;
 pub use start::Start;
 pub use words::parse_words;

@@ -88,7 +88,7 @@ const WORDS: [Word; 14] = [
         ],
     },
     // `post --book FILE (--batch NAME [--from N] | --row-of NAME --ref REF)
-    // [--rounding ACCOUNT [--within AMOUNT] [--decimals N]] [--dry-run] [--all-or-none] [--explain-all]`
+    // [--rounding ACCOUNT [--within AMOUNT] [--decimals N]] [--dry-run [--gains] [--holdings]] [--all-or-none] [--explain-all]`
     Word {
         name: "post",
         brief: "Posts ledger text from standard input to a book",
@@ -120,13 +120,19 @@ const WORDS: [Word; 14] = [
             WITHIN,
             DECIMALS,
             DRY_RUN,
+            WordOption {
+                form: Form::Flag,
+                name: "gains",
+                help: "Prints behind the replies what the sales gain that the call would add, as in lotbook post --book family.book --batch what-if --dry-run --gains < sale.ledger. It goes with --dry-run",
+            },
+            HOLDINGS,
             ALL_OR_NONE,
             EXPLAIN_ALL,
         ],
     },
     // `import (--book FILE --batch NAME (--profile FILE [--keep-accepted] | --invest ACCOUNT --cash ACCOUNT --fees ACCOUNT
-    // --gains ACCOUNT [--from N] [--rounding ACCOUNT [--within AMOUNT] [--decimals N]]) [--except REF]... [--dry-run] [--all-or-none] |
-    // --profile FILE --show) [--explain-all]`
+    // --gains ACCOUNT [--from N] [--rounding ACCOUNT [--within AMOUNT] [--decimals N]]) [--except REF]...
+    // [--dry-run [--sales] [--holdings]] [--all-or-none] | --profile FILE --show) [--explain-all]`
     Word {
         name: "import",
         brief: "Posts the rows of a broker file from standard input to a book",
@@ -407,6 +413,12 @@ pub(crate) const IMPORT_OPTIONS: &[WordOption] = &[
     WITHIN,
     ROW_DECIMALS,
     DRY_RUN,
+    WordOption {
+        form: Form::Flag,
+        name: "sales",
+        help: "Prints behind the replies what the sales gain that the call would add, as in --dry-run --sales. It goes with --dry-run",
+    },
+    HOLDINGS,
     ALL_OR_NONE,
     EXPLAIN_ALL,
     WordOption {
@@ -475,6 +487,13 @@ const DRY_RUN: WordOption = WordOption {
     form: Form::Flag,
     name: "dry-run",
     help: "Prints what the call would print, with its status, and keeps nothing: neither the file of the book nor its log is changed",
+};
+
+/// `--holdings` of a dry run.
+const HOLDINGS: WordOption = WordOption {
+    form: Form::Flag,
+    name: "holdings",
+    help: "Prints behind the replies what the book would hold, as in --dry-run --holdings. It goes with --dry-run",
 };
 
 /// `--all-or-none`

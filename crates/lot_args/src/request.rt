@@ -1,3 +1,6 @@
+ghost use Rattle.std.specs.Prelude.{◌≡◌};
+ghost use Rattle.lot_args.specs.Preview.{preview_of};
+
 use crate::action::{Action, AskedImport};
 
 /// What the arguments ask for.
@@ -34,8 +37,33 @@ pub enum Request {
 pub enum Effect {
     /// What is accepted is kept.
     Keep,
-    /// Nothing is kept.
-    DryRun,
+    /// Nothing is kept. Behind the answer that is told of the book which the call would leave.
+    DryRun(Preview),
+}
+
+impl Effect {
+    /// Returns what is told of the book that a call leaves: nothing where that is kept.
+    pub fn preview(self) -> Preview
+        ensures { result ≡ preview_of self }
+    {
+        match self {
+            Effect::Keep => Preview::Nothing,
+            Effect::DryRun(preview) => preview,
+        }
+    }
+}
+
+/// What is told of the book that a dry run would leave, behind its answer.
+#[derive(Clone, Copy)]
+pub enum Preview {
+    /// Nothing.
+    Nothing,
+    /// What the sales gained that it would add.
+    Gains,
+    /// What the book would hold.
+    Holdings,
+    /// Both, the gains first.
+    GainsAndHoldings,
 }
 
 /// Which of its refusals and faults a call explains on standard error.

@@ -15,7 +15,9 @@ ghost use Rattle.lot_args.specs.From.{from_of};
 ghost use Rattle.lot_args.specs.Keys.{are_keys, key_named, keys_in, keys_of, parts_of};
 ghost use Rattle.lot_args.specs.Number.{number_of};
 ghost use Rattle.lot_args.specs.Rounding.{decimals_of, named_bound, rounding_of, within_of};
-ghost use Rattle.lot_args.specs.Words.{accounts_of, effect_of, format_of, keeping_by_profile, keeping_of, notes_of, saying_of};
+ghost use Rattle.lot_args.specs.Preview.{effect_of, gains_option, preview_asked};
+ghost use Rattle.lot_args.specs.Words.{accounts_of, format_of, keeping_by_profile, keeping_in, keeping_of, keeping_told};
+ghost use Rattle.lot_args.specs.Words.{notes_of, saying_of};
 ghost use Rattle.lot_args.specs.Words.{strictness_of, tolerance_of};
 
 use crate::action::{Format, Keeping, Saying};
@@ -23,7 +25,7 @@ use crate::batch::{Batch, BatchFault};
 use crate::fault::BadOption;
 use crate::needed::{has_profile, has_row, is_shown, speaks_of_book};
 use crate::options::MOST_DECIMALS;
-use crate::request::{Effect, Notes};
+use crate::request::{Effect, Notes, Preview};
 use crate::start::Start;
 use crate::without::all_name_entries;
 use clap::ArgMatches;
@@ -63,6 +65,8 @@ pub(crate) fn options_of(word: &str) -> &'static [BadOption]
             BadOption::Rounding,
             BadOption::Within,
             BadOption::Decimals,
+            BadOption::PostGains,
+            BadOption::Holdings,
             BadOption::From,
         ],
         "import" => &[
@@ -77,6 +81,8 @@ pub(crate) fn options_of(word: &str) -> &'static [BadOption]
             BadOption::Rounding,
             BadOption::Within,
             BadOption::Decimals,
+            BadOption::Sales,
+            BadOption::Holdings,
             BadOption::From,
         ],
         "holdings" => &[BadOption::AsOf, BadOption::Day, BadOption::Format],
@@ -163,6 +169,9 @@ fn is_good(options: &ArgMatches<'_>, option: BadOption) -> bool
         },
         BadOption::Decimals if has_rounding(options) => true,
         BadOption::Within | BadOption::Decimals => !is_given(options, name),
+        BadOption::PostGains | BadOption::Sales | BadOption::Holdings => {
+            !is_set(options, name) || is_set(options, "dry-run")
+        }
         BadOption::Account => match given(options, name) {
             Some(text) => names_account(text),
             None => true,
@@ -533,38 +542,85 @@ fn number_or(options: &ArgMatches<'_>, name: &str, other: u32) -> u32
     options.get_one::<u32>(name).unwrap_or(other)
 }
 
-/// Returns what a call may leave in the book.
-pub(crate) fn effect(options: &ArgMatches<'_>) -> Effect
-    ensures { result ≡ effect_of (rows_of (found_of options.now)) }
+/// Returns what a call of the subcommand may leave in the book.
+pub(crate) fn effect(word: &str, options: &ArgMatches<'_>) -> Effect
+    ensures { result ≡ effect_of word.now (rows_of (found_of options.now)) }
 {
     if is_set(options, "dry-run") {
-        return Effect::DryRun;
+        return Effect::DryRun(preview(word, options));
     }
     Effect::Keep
 }
 
-/// Returns which commits keep the commands of a call. Where a dry run is asked for, `--all-or-none` changes nothing.
-pub(crate) fn keeping(options: &ArgMatches<'_>) -> Keeping
-    ensures { result ≡ keeping_of (rows_of (found_of options.now)) }
+/// Returns what is told of the book that a dry run of the subcommand would leave.
+fn preview(word: &str, options: &ArgMatches<'_>) -> Preview
+    ensures { result ≡ preview_asked word.now (rows_of (found_of options.now)) }
 {
-    if is_set(options, "dry-run") {
-        return Keeping::Each;
+    let gains = is_set(options, gains_option(word));
+    if is_set(options, "holdings") {
+        return if gains {
+            Preview::GainsAndHoldings
+        } else {
+            Preview::Holdings
+        };
     }
+    if gains {
+        return Preview::Gains;
+    }
+    Preview::Nothing
+}
+
+/// Returns the name of the option that asks for the gains of the sales which a dry run would add. That of `import` which is called
+/// `gains` names an account.
+fn gains_option(word: &str) -> &'static str
+    ensures { result.now ≡ gains_option word.now }
+{
+    match word {
+        "import" => "sales",
+        _ => "gains",
+    }
+}
+
+/// Returns which commits keep the commands of a call of the subcommand. In a dry run that is so where something is told of the book
+/// that it would leave; else `--all-or-none` changes nothing.
+pub(crate) fn keeping(word: &str, options: &ArgMatches<'_>) -> Keeping
+    ensures { result ≡ keeping_of word.now (rows_of (found_of options.now)) }
+{
     if is_set(options, "all-or-none") {
-        return Keeping::AllOrNone;
+        return keeping_in(effect(word, options), Keeping::AllOrNone);
     }
     Keeping::Each
 }
 
-/// Returns which commits keep the commands of an import by a profile: one for all, unless `--keep-accepted` is given. Where a dry
-/// run is asked for, there is none.
+/// Returns which commits keep the commands of an import by a profile: one for all, unless `--keep-accepted` is given. In a dry run
+/// that is so where something is told of the book that it would leave.
 pub(crate) fn keeping_by_profile(options: &ArgMatches<'_>) -> Keeping
     ensures { result ≡ keeping_by_profile (rows_of (found_of options.now)) }
 {
-    if is_set(options, "dry-run") || is_set(options, "keep-accepted") {
+    if is_set(options, "keep-accepted") {
         return Keeping::Each;
     }
-    Keeping::AllOrNone
+    keeping_in(effect("import", options), Keeping::AllOrNone)
+}
+
+/// Returns which commits keep the commands of a call with that effect, where these are asked for.
+fn keeping_in(effect: Effect, asked: Keeping) -> Keeping
+    ensures { result ≡ keeping_in effect asked }
+{
+    match effect {
+        Effect::Keep => asked,
+        Effect::DryRun(preview) => keeping_told(preview, asked),
+    }
+}
+
+/// Returns which commits keep the commands of a dry run of which that is told: one for each where that is nothing.
+fn keeping_told(preview: Preview, asked: Keeping) -> Keeping
+    ensures { result ≡ keeping_told preview asked }
+{
+    match preview {
+        Preview::Nothing => Keeping::Each,
+        Preview::Gains | Preview::Holdings | Preview::GainsAndHoldings => asked,
+    }
 }
 
 /// Returns whether a dump has to be what it says at its end.

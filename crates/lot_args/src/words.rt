@@ -122,7 +122,7 @@ fn requested(
     }
     Ok(Request::Act {
         action: action(alloc, word, options)?,
-        effect: effect(options),
+        effect: effect(word, options),
         notes: notes(before, options),
     })
 }
@@ -149,7 +149,7 @@ fn by_profile(
     Ok(Request::Import {
         profile,
         import: asked_import(alloc, options)?,
-        effect: effect(options),
+        effect: effect("import", options),
         notes: notes(before, options),
     })
 }
@@ -194,7 +194,7 @@ fn action(alloc: Global, word: &str, options: &ArgMatches<'_>) -> Result<Action,
             batch: batch(alloc, options, "batch")?,
             from: from(options),
             rounding: rounding(alloc, options)?,
-            keeping: keeping(options),
+            keeping: keeping(word, options),
         })),
         "import" => Ok(Action::Import(Import {
             book,
@@ -203,7 +203,7 @@ fn action(alloc: Global, word: &str, options: &ArgMatches<'_>) -> Result<Action,
             from: from(options),
             except: except(alloc, options)?,
             rounding: rounding(alloc, options)?,
-            keeping: keeping(options),
+            keeping: keeping(word, options),
         })),
         "holdings" => Ok(Action::Report {
             book,

@@ -4,4 +4,5 @@ pub mod Loaded
 pub mod Looks
 pub mod Remains
 pub mod Rounding
+pub mod Status
 pub mod Sums

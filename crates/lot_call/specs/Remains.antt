@@ -33,7 +33,7 @@ kept_of _ course = remains.Output
 
 -- of a dry run nothing is kept, nor of a call that is dropped; of one in doubt the same call tells
 abbrev pub remains_of : Action → Effect → Fate → Course → Remains
-remains_of action DryRun fate course = remains.DryRun
+remains_of action (DryRun preview) fate course = remains.DryRun
 remains_of action Keep Dropped course = remains.Output
 remains_of action Keep InDoubt course = remains.Whole
 remains_of action Keep Kept course = kept_of action course

@@ -1,22 +1,29 @@
 //! The arguments of the program.
 
-ghost use Rattle.std.specs.Prelude.{◌≡◌, ◌⊎◌, IfErr};
-ghost use Rattle.lot_host.specs.Answers.{IsStatusOf, stopped, unusable};
+ghost use Rattle.std.specs.Prelude.{◌≡◌, IfErr, IfOk};
+ghost use Rattle.std.specs.IoError.{error_kind};
+ghost use Rattle.std.specs.Vec.Iter.{into_iter_items};
+ghost use Rattle.lot_host.specs.Answers.{IsStatusOf};
+ghost use Rattle.lot_call.specs.Status.{IsRefusal, status_unread};
 
 use crate::call::rounding_of;
-use crate::remains::say_cut_short;
 use crate::status::out_of_memory;
+use crate::told::end_shown;
 use clap::error::ErrorKind as UsageKind;
 use lot_args::{BadOption, Needed, Notes, Request, WordsFault, require_options};
 use lot_base::Label;
-use lot_stream::{DONE, STOPPED, UNUSABLE};
+use lot_stream::UNUSABLE;
 use lot_without::{By, Without};
-use std::env;
+use std::alloc::{AllocError, Global};
+use std::env::{self, Args};
 use std::io::{self, ErrorKind};
 
 /// What is said of a `post` that names no batch, in the form in which `clap` tells of a missing option.
 const NO_BATCH: &str =
     "error: the following required arguments were not provided:\n  <--batch <NAME>|--row-of <NAME>>\n\nUsage: lotbook post --book <FILE> <--batch <NAME>|--row-of <NAME>>\n\nFor more information, try '--help'.";
+
+/// The first line of what `clap` says of options that are missing.
+const SOME_MISSING: &str = "error: the following required arguments were not provided:";
 
 /// What is said, behind its name, of an option of a rounding account that stands before a subcommand, in the form in which `clap`
 /// tells of options that can't stand together.
@@ -32,21 +39,36 @@ const LONGEST_SHOWN: usize = 80;
 
 /// Returns the arguments, the program's name first. The error is the status of the program: why they can't be used is said.
 pub fn words(rt: &HostRuntime) -> Result<Vec<String>, u8>
-    ensures { IfErr result (λ status. (status ≡ unusable) ⊎ (status ≡ stopped)) }
+    ensures { IfErr result IsRefusal }
 {
     match read_words(rt) {
         Ok(words) => Ok(words),
-        Err(error) if error.kind() == ErrorKind::OutOfMemory => Err(out_of_memory(rt)),
-        Err(_) => {
-            let _ = eprintln!(rt; "error: a word isn't UTF-8");
-            Err(UNUSABLE)
-        }
+        Err(error) => Err(refuse_words(rt, &error)),
     }
 }
 
 /// Returns the arguments.
 fn read_words(rt: &HostRuntime) -> io::Result<Vec<String>> {
-    Ok(env::args(rt)?.collect(rt.alloc())?)
+    Ok(all(rt.alloc(), env::args(rt)?)?)
+}
+
+/// Returns all words that are left. The only error is out of memory.
+fn all(alloc: Global, left: Args) -> Result<Vec<String>, AllocError>
+    ensures { IfOk result (λ words. words.items ≡ into_iter_items left) }
+{
+    left.collect(alloc)
+}
+
+/// Says why the arguments can't be read, and returns the status.
+fn refuse_words(rt: &HostRuntime, error: &io::Error) -> u8
+    ensures status { result ≡ status_unread (error_kind error.now) }
+    ensures refusal { IsRefusal result }
+{
+    if error.kind() == ErrorKind::OutOfMemory {
+        return out_of_memory(rt);
+    }
+    let _ = eprintln!(rt; "error: a word isn't UTF-8");
+    UNUSABLE
 }
 
 /// Warns on standard error of a comma in the bound of crumbs, which stands between digits and has no meaning. Where memory ends it
@@ -80,17 +102,16 @@ pub fn say_words_fault(rt: &HostRuntime, words: &[String], fault: &WordsFault) -
                 }
                 UNUSABLE
             }
-            Ok(()) => DONE,
-            Err(error) => {
-                say_cut_short(rt, error);
-                STOPPED
-            }
+            printed => end_shown(rt, printed),
         },
         WordsFault::Misplaced(option) => {
             let _ = eprintln!(rt; "error: the argument '{option}' {MISPLACED}");
             UNUSABLE
         }
-        WordsFault::MissingOptions(needed) => say_missing(rt, words, *needed),
+        WordsFault::MissingOptions(needed) => {
+            say_missing(rt, words, *needed);
+            UNUSABLE
+        }
         WordsFault::BadValue(option) => {
             let _ = eprintln!(rt; "fault U2 BadValue {option}");
             show_form(rt, words, *option);
@@ -100,17 +121,17 @@ pub fn say_words_fault(rt: &HostRuntime, words: &[String], fault: &WordsFault) -
     }
 }
 
-/// Says on standard error which of the options that a call needs are missing, and shows such a call. Returns the status.
-fn say_missing(rt: &HostRuntime, words: &[String], needed: Needed) -> u8
-    ensures { (result ≡ unusable) ⊎ (result ≡ stopped) }
-{
+/// Says on standard error which of the options that a call needs are missing, and shows such a call. Where memory ends, it says
+/// no more than that some are.
+fn say_missing(rt: &HostRuntime, words: &[String], needed: Needed) {
     match needed {
         Needed::BatchOrRow => {
             let _ = eprintln!(rt; "{NO_BATCH}");
         }
         Needed::Accounts | Needed::Book => match require_options(rt.alloc(), words, needed) {
             Err(error) if matches!(error.kind(), UsageKind::OutOfMemory) => {
-                return out_of_memory(rt);
+                let _ = eprintln!(rt; "{SOME_MISSING}");
+                return;
             }
             Err(error) => {
                 let _ = error.print(rt);
@@ -124,7 +145,6 @@ fn say_missing(rt: &HostRuntime, words: &[String], needed: Needed) -> u8
             let _ = eprintln!(rt; "\nExample: {BY_PROFILE}");
         }
     }
-    UNUSABLE
 }
 
 /// Shows on standard error how the subcommand is called that stands first among the arguments.
@@ -194,6 +214,9 @@ fn show_form(rt: &HostRuntime, words: &[String], option: BadOption) {
 fn pair(words: &[String], option: BadOption) -> Option<&'static str> {
     let has_row = value_of(words, "row-of").is_some();
     let has_rounding = value_of(words, "rounding").is_some();
+    if let Some(alone) = without_dry_run(option) {
+        return Some(alone);
+    }
     if value_of(words, "profile").is_some() {
         return beside_profile(option);
     }
@@ -215,6 +238,20 @@ fn pair(words: &[String], option: BadOption) -> Option<&'static str> {
             Some(
                 "--decimals stands beside --rounding alone, as in --rounding Equity:R --decimals 2",
             )
+        }
+        _ => None,
+    }
+}
+
+/// Returns what is to be said of an option that stands beside `--dry-run` alone.
+fn without_dry_run(option: BadOption) -> Option<&'static str> {
+    match option {
+        BadOption::PostGains => {
+            Some("--gains stands beside --dry-run alone, as in --dry-run --gains")
+        }
+        BadOption::Sales => Some("--sales stands beside --dry-run alone, as in --dry-run --sales"),
+        BadOption::Holdings => {
+            Some("--holdings stands beside --dry-run alone, as in --dry-run --holdings")
         }
         _ => None,
     }
@@ -244,6 +281,7 @@ fn beside_profile(option: BadOption) -> Option<&'static str> {
 fn form(option: BadOption) -> &'static str {
     match option {
         BadOption::Show | BadOption::KeepAccepted => "--profile beside it",
+        BadOption::PostGains | BadOption::Sales | BadOption::Holdings => "--dry-run beside it",
         BadOption::Batch => "1 to 32 letters, digits, '.', '_' or '-', as in --batch broker",
         BadOption::PostBatch => "1 to 32 letters, digits, '.', '_' or '-', as in --batch 2024",
         BadOption::RowOf => "the batch of a broker file, as in --row-of broker --ref A17",

@@ -9,9 +9,10 @@
 //!   output can't be written; `file_kind`: what stands in the place of its book.
 //! - `crumbs`: what became of the crumbs of commands; `taken`: what an account took of them, with the
 //!   `sums`. `watched`: all that is watched of commands.
+//! - `unpriced`: lots of a report that have no price.
 //! - `profile`: the profile of an import, as it is read from its file. `export`: what is said of a broker's export; `exported`: its
 //!   rows, for what is said of those that are refused or left out. `row_fault`: why a row says nothing that can be posted, with its
-//!   `figures` and `signs`.
+//!   `figures` and `signs`. `statement`: what is said of a faulty statement.
 #![tactic(auto)]
 
 mod arguments;
@@ -29,10 +30,12 @@ mod remains;
 mod remembered;
 mod row_fault;
 mod signs;
+mod statement;
 mod status;
 mod sums;
 mod taken;
 mod told;
+mod unpriced;
 mod watched;
 
 pub use arguments::{say_words_fault, warn, words};
@@ -45,7 +48,9 @@ pub use notes::{say_fate, say_why, sum_up};
 pub use profile::{LoadFault, Loaded, load, loaded_from};
 pub use remains::{say_cut_short, say_unwritten};
 pub use remembered::Remembered;
-pub use status::out_of_memory;
+pub use statement::say_statement_fault;
+pub use status::{PlainFault, out_of_memory, write_fault};
 pub use taken::say_taken;
 pub use told::{explain, tell};
+pub use unpriced::Appraiser;
 pub use watched::Watched;

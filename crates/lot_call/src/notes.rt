@@ -41,7 +41,7 @@ pub fn sum_up(call: &Call<'_>, course: &Course) {
         let _ = eprint!(rt; " in {seconds}.{tenths} s");
     }
     let _ = match call.effect {
-        Effect::DryRun => eprintln!(rt; ": a dry run, of which nothing is kept"),
+        Effect::DryRun(_) => eprintln!(rt; ": a dry run, of which nothing is kept"),
         Effect::Keep => eprintln!(rt; ""),
     };
 }

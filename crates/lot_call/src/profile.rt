@@ -1,8 +1,10 @@
 //! The profile of an import, as the program reads it.
 
-ghost use Rattle.std.specs.Prelude.{◌≡◌, ◌⊎◌, ℕ, List, IfErr, IfOk};
-ghost use Rattle.lot_host.specs.Answers.{stopped, unusable};
+ghost use Rattle.std.specs.Prelude.{◌≡◌, ℕ, List, IfErr, IfOk};
+ghost use Rattle.lot_host.specs.Answers.{unusable};
+ghost use Rattle.std.specs.IoError.{error_kind};
 ghost use Rattle.lot_call.specs.Loaded.{IsLoadFault, IsLoaded};
+ghost use Rattle.lot_call.specs.Status.{IsRefusal, status_of_load, status_of_text, status_unread};
 
 use crate::status::out_of_memory;
 use lot_base::NameFault;
@@ -12,7 +14,7 @@ use lot_profile_text::{ProfileFault, fault_text, read_profile};
 use lot_rounding::Rounding;
 use lot_stream::UNUSABLE;
 use std::alloc::Global;
-use std::io::ErrorKind;
+use std::io::{self, ErrorKind};
 use std::{fmt, fs};
 
 /// The profile of an import, and where its crumbs go.
@@ -35,20 +37,15 @@ pub enum LoadFault {
 /// program.
 pub fn load(rt: &HostRuntime, path: &str) -> Result<Loaded, u8>
     ensures loaded { IfOk result (λ loaded. (text : List ℕ) × IsLoaded text loaded) }
-    ensures fault { IfErr result (λ status. (status ≡ unusable) ⊎ (status ≡ stopped)) }
+    ensures fault { IfErr result IsRefusal }
 {
     let text = match fs::read_to_string(rt, path) {
         Ok(text) => text,
-        Err(error) if error.kind() == ErrorKind::OutOfMemory => return Err(out_of_memory(rt)),
-        Err(error) => return Err(refuse(rt, path, &error)),
+        Err(error) => return Err(refuse_file(rt, path, &error)),
     };
     match loaded_from(rt.alloc(), text.as_str()) {
         Ok(loaded) => Ok(loaded),
-        Err(LoadFault::Text(fault)) => Err(refuse_text(rt, path, &fault)),
-        Err(LoadFault::Rounding(NameFault::Memory)) => Err(out_of_memory(rt)),
-        Err(LoadFault::Rounding(_)) => {
-            Err(refuse(rt, path, &"accounts, rounding: has to be an account"))
-        }
+        Err(fault) => Err(refuse_load(rt, path, &fault)),
     }
 }
 
@@ -70,23 +67,53 @@ pub fn loaded_from(alloc: Global, text: &str) -> Result<Loaded, LoadFault>
     }
 }
 
-/// Says why a text is no profile, and returns the status of the program.
-fn refuse_text(rt: &HostRuntime, path: &str, fault: &ProfileFault) -> u8
-    ensures { (result ≡ unusable) ⊎ (result ≡ stopped) }
+/// Says why the file can't be read, and returns the status of the program.
+fn refuse_file(rt: &HostRuntime, path: &str, error: &io::Error) -> u8
+    ensures status { result ≡ status_unread (error_kind error.now) }
+    ensures refusal { IsRefusal result }
 {
-    if let ProfileFault::NoToml(line) = fault {
-        return refuse(
+    if error.kind() == ErrorKind::OutOfMemory {
+        out_of_memory(rt)
+    } else {
+        refuse(rt, path, error)
+    }
+}
+
+/// Says why a text gives no profile to import by, and returns the status of the program.
+fn refuse_load(rt: &HostRuntime, path: &str, fault: &LoadFault) -> u8
+    ensures status { result ≡ status_of_load fault.now }
+    ensures refusal { IsRefusal result }
+{
+    match fault {
+        LoadFault::Text(fault) => refuse_text(rt, path, fault),
+        LoadFault::Rounding(NameFault::Memory) => out_of_memory(rt),
+        LoadFault::Rounding(
+            NameFault::BadAccount
+            | NameFault::BadCommodity
+            | NameFault::BadLabel
+            | NameFault::BadNote,
+        ) => refuse(rt, path, &"accounts, rounding: has to be an account"),
+    }
+}
+
+/// Says why a text is no profile, and returns the status of the program. Where memory ends, it says no more than that it is none.
+fn refuse_text(rt: &HostRuntime, path: &str, fault: &ProfileFault) -> u8
+    ensures status { result ≡ status_of_text fault.now }
+    ensures refusal { IsRefusal result }
+{
+    match fault {
+        ProfileFault::Memory => out_of_memory(rt),
+        ProfileFault::NoToml(line) => refuse(
             rt,
             path,
             &format_args!("line {line} is no TOML, or has a key that stands above already"),
-        );
-    }
-    if matches!(fault, ProfileFault::Memory) {
-        return out_of_memory(rt);
-    }
-    match fault_text(rt.alloc(), fault) {
-        Ok(said) => refuse(rt, path, &said),
-        Err(_) => out_of_memory(rt),
+        ),
+        ProfileFault::Unknown(_) | ProfileFault::Missing(_) | ProfileFault::Wrong(_, _) => {
+            match fault_text(rt.alloc(), fault) {
+                Ok(said) => refuse(rt, path, &said),
+                Err(_) => bad_profile(rt),
+            }
+        }
     }
 }
 
@@ -94,6 +121,15 @@ fn refuse_text(rt: &HostRuntime, path: &str, fault: &ProfileFault) -> u8
 fn refuse<D: fmt::Display>(rt: &HostRuntime, path: &str, why: &D) -> u8
     ensures { result ≡ unusable }
 {
-    let _ = eprintln!(rt; "fault U2 BadValue --profile\nlotbook: {path}: {why}");
+    let status = bad_profile(rt);
+    let _ = eprintln!(rt; "lotbook: {path}: {why}");
+    status
+}
+
+/// Says that a file has no profile, and returns the status of the program.
+fn bad_profile(rt: &HostRuntime) -> u8
+    ensures { result ≡ unusable }
+{
+    let _ = eprintln!(rt; "fault U2 BadValue --profile");
     UNUSABLE
 }

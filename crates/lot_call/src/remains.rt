@@ -59,7 +59,7 @@ fn remains_of(action: &Action, effect: Effect, fate: Fate, course: &Course) -> R
     ensures { result ≡ remains_of action.now effect fate course.now }
 {
     match (effect, fate) {
-        (Effect::DryRun, _) => Remains::DryRun,
+        (Effect::DryRun(_), _) => Remains::DryRun,
         (Effect::Keep, Fate::Dropped) => Remains::Output,
         (Effect::Keep, Fate::InDoubt) => Remains::Whole,
         (Effect::Keep, Fate::Kept) => kept_of(action, course),

@@ -1,14 +1,37 @@
-//! How a call ends.
+//! How a call ends, and what it writes straight to standard output.
 
-ghost use Rattle.std.specs.Prelude.{◌≡◌};
+ghost use Rattle.std.specs.Prelude.{◌≡◌, OnOk};
+ghost use Rattle.std.specs.Io.KnownBytes.{Appends};
 ghost use Rattle.lot_host.specs.Answers.{stopped};
+ghost use Rattle.lot_call.specs.Status.{line_of};
 
 use lot_stream::STOPPED;
+use std::io::{self, Write};
 
-/// Reports that memory ended, and returns the status.
+/// A fault that has no code (docs/RULES.md, All codes).
+#[derive(Clone, Copy)]
+pub enum PlainFault {
+    /// Out of memory.
+    Memory,
+    /// The file of the book can't be opened.
+    Open,
+}
+
+/// Reports on standard output that memory ended, and returns the status.
 pub fn out_of_memory(rt: &HostRuntime) -> u8
     ensures { result ≡ stopped }
 {
-    let _ = println!(rt; "fault Memory");
+    let _ = write_fault(&mut rt.stdout(), PlainFault::Memory);
     STOPPED
+}
+
+/// Writes the line of a fault. It takes no memory.
+pub fn write_fault<W: Write>(writer: &mut W, fault: PlainFault) -> io::Result<()>
+    ensures { OnOk result (Appends (W.contents writer.old) (W.contents writer.new)
+        (line_of fault)) }
+{
+    match fault {
+        PlainFault::Memory => writer.write_all(b"fault Memory\n"),
+        PlainFault::Open => writer.write_all(b"fault open\n"),
+    }
 }

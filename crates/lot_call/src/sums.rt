@@ -1,4 +1,4 @@
-//! The sums of crumbs in each of their currencies.
+//! The sums of amounts in each of their currencies.
 
 ghost use Rattle.std.specs.Prelude.{◌≡◌, List, [], ◌∷◌, ◌++◌, ℕ, ℤ, ◌+ℤ◌, IsErrOf, OnOk, SomeIff};
 ghost use Rattle.lot_book.specs.Currencies.{sum_in};
@@ -91,6 +91,15 @@ impl Sums {
         sum.checked_add(amount)
     }
 
+    /// Returns the sums as a text, which is empty where there is none. The only error is out of memory.
+    pub(crate) fn text(&self, alloc: Global) -> Result<String, AllocError> {
+        let mut text = String::new(alloc);
+        for (currency, sum) in &self.by_currency {
+            push_amount(alloc, &mut text, currency, *sum)?;
+        }
+        Ok(text)
+    }
+
     /// Sets the sum in a currency. The only error is out of memory.
     fn set(&mut self, currency: &Commodity, sum: Wide) -> Result<(), SumFault>
         ensures sums { (amounts : List (List ℕ × ℤ)) (amount : ℤ)
@@ -103,4 +112,16 @@ impl Sums {
         self.by_currency.insert(currency.copy()?, sum)?;
         Ok(())
     }
+}
+
+/// Appends an amount to those of a text. The only error is out of memory.
+pub(crate) fn push_amount(
+    alloc: Global,
+    text: &mut String,
+    currency: &Commodity,
+    amount: Wide,
+) -> Result<(), AllocError> {
+    let before = if text.is_empty() { "" } else { ", " };
+    let amount = amount.text_money(alloc)?;
+    write!(text, "{before}{amount} {currency}")
 }

@@ -6,7 +6,7 @@ ghost use Rattle.lot_call.specs.Sums.{AreSummed, nonzero};
 
 use crate::call::{Call, rounding_of};
 use crate::crumbs::Crumbs;
-use crate::sums::{SumFault, Sums};
+use crate::sums::{SumFault, Sums, push_amount};
 use lot_args::Action;
 use lot_base::{Account, Commodity};
 use lot_command::Items;
@@ -75,24 +75,16 @@ impl Taken {
         if more > 0 {
             let _ = eprintln!(call.rt; "lotbook: ... and {more} more");
         }
-        let sums = self.sums_text(alloc)?;
+        let Some(sums) = &self.sums else {
+            return Ok(());
+        };
+        let sums = sums.text(alloc)?;
         if sums.is_empty() {
             return Ok(());
         }
         let (count, end) = (self.count, if self.count == 1 { "" } else { "s" });
         let _ = eprintln!(call.rt; "lotbook: {account} takes {sums}, of {count} {what}{end}");
         Ok(())
-    }
-
-    /// Returns the sums as a text, which is empty where there is none. The only error is out of memory.
-    fn sums_text(&self, alloc: Global) -> Result<String, AllocError> {
-        let mut text = String::new(alloc);
-        if let Some(sums) = &self.sums {
-            for (currency, sum) in &sums.by_currency {
-                push_amount(alloc, &mut text, currency, *sum)?;
-            }
-        }
-        Ok(text)
     }
 }
 
@@ -159,16 +151,4 @@ fn amounts_of(alloc: Global, crumbs: &[(Commodity, Wide)]) -> Result<String, All
         }
     }
     Ok(text)
-}
-
-/// Appends an amount to those of a text. The only error is out of memory.
-fn push_amount(
-    alloc: Global,
-    text: &mut String,
-    currency: &Commodity,
-    amount: Wide,
-) -> Result<(), AllocError> {
-    let before = if text.is_empty() { "" } else { ", " };
-    let amount = amount.text_money(alloc)?;
-    write!(text, "{before}{amount} {currency}")
 }

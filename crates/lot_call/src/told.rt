@@ -1,9 +1,10 @@
 //! What the codes mean, and why the commands of a call were refused.
 
-ghost use Rattle.std.specs.Prelude.{◌≡◌, option_copied};
-ghost use Rattle.lot_host.specs.Answers.{IsTold, unusable};
+ghost use Rattle.std.specs.Prelude.{◌≡◌, Some, option_copied};
+ghost use Rattle.lot_host.specs.Answers.{IsShown, IsTold, unusable};
 ghost use Rattle.lot_call.specs.Except.{except_of};
 ghost use Rattle.lot_call.specs.Looks.{IsLookedAt};
+ghost use Rattle.lot_call.specs.Status.{status_shown, status_told};
 ghost use Rattle.sqlite.specs.Held.{state};
 
 use crate::call::{Call, rounding_of};
@@ -31,19 +32,42 @@ pub fn tell(rt: &HostRuntime, code: Option<&str>) -> u8
 {
     let replies = Meter::of_replies(rt, None);
     let mut output = Output::new(rt.alloc(), rt.stdout(), Pace::Buffered, replies);
-    let told = match code {
-        None => list(&mut output).and(Ok(true)),
-        Some("profile") => tell_profile(rt, &mut output).and(Ok(true)),
-        Some(word) => lot_explain::explain(&mut output, word),
+    let shown = match code {
+        None => list(&mut output),
+        Some("profile") => tell_profile(rt, &mut output),
+        Some(word) => {
+            let told = lot_explain::explain(&mut output, word);
+            output.end();
+            return end_told(rt, word, told);
+        }
     };
     output.end();
-    match told {
-        Ok(is_told) if is_told => DONE,
-        Ok(_) => unknown(rt, code.unwrap_or("")),
+    end_shown(rt, shown)
+}
+
+/// Says that the output is cut short, where it couldn't be written. Returns the status.
+pub(crate) fn end_shown(rt: &HostRuntime, shown: io::Result<()>) -> u8
+    ensures status { result ≡ status_shown shown }
+    ensures shown { IsShown result }
+{
+    match shown {
+        Ok(()) => DONE,
         Err(error) => {
             say_cut_short(rt, error);
             STOPPED
         }
+    }
+}
+
+/// Says that a word is no code, where it is none, or that the output is cut short. Returns the status.
+fn end_told(rt: &HostRuntime, word: &str, told: io::Result<bool>) -> u8
+    ensures status { result ≡ status_told told }
+    ensures told { IsTold (Some word.now) result }
+{
+    match told {
+        Ok(true) => DONE,
+        Ok(false) => unknown(rt, word),
+        Err(error) => end_shown(rt, Err(error)),
     }
 }
 

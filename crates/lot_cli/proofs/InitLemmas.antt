@@ -6,7 +6,7 @@ use Rattle.lot_io.specs.Writes.{WritesMade}
 use Rattle.lot_cli.specs.Says.{Halts, Succeeds, Told}
 use Rattle.lot_cli.specs.Init.{Makes, ready_line}
 use Rattle.lot_cli.specs.declared.halt.Halt.TheVariants as halt
-use Rattle.lot_store.specs.Create.{IsHandedBack, LeavesNew, RefusedFor}
+use Rattle.lot_store.specs.Create.{IsHandedBack, LeavesAfter, LeavesNew, RefusedFor}
 use Rattle.lot_store.specs.declared.fault.CreateFault.{CreateFault}
 use Rattle.lot_store.specs.declared.fault.CreateFault.TheVariants.{NotABook}
 use Rattle.lot_table.specs.Shape.{schema_of}
@@ -20,7 +20,7 @@ makes old new before written calls told made committed empty crash said =
 
 pub makes_none : (old new : State) (before written : Option (List ℕ)) (calls : WritesMade) (fault : CreateFault) (told : Told) → (HasCleanDisk new → RefusedFor old new fault)
     → (old.now.schema ≢ schema_of [] → fault ≡ NotABook) → (HasCleanDisk new → IsHandedBack old new) → (HasCleanDisk new → KeepsCommit old new)
-    → Survives old new (LeavesNew old) → Halts (halt.Create fault) before written calls told
+    → Survives old new (LeavesAfter fault old) → Halts (halt.Create fault) before written calls told
     → Makes old new before written calls told
 makes_none old new before written calls fault told refused other back kept crash said =
     inr (fault, record { refused = refused; other = other; handed_back = back; kept = kept; crash = crash }, said)

@@ -4,6 +4,7 @@ pub mod CheckLemmas
 pub mod MigrationLemmas
 pub mod InputLemmas
 pub mod ReportLemmas
+pub mod PreviewLemmas
 pub mod RowLemmas
 pub mod RunLemmas
 pub mod NumberLemmas

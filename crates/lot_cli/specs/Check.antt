@@ -49,7 +49,7 @@ pub record ShowsHeld (book : List Entry) (before written : Option (List ℕ)) (c
   pub cause : HasCause shown (record { before = calls.before; after = between })
   pub concludes : Concludes Accepted shown mid written (record { before = between; after = calls.after }) status
 
--- the status behind the holdings: that of the commands, unless the holdings can't be written
+-- the status behind a report: that of the commands, unless the report can't be written
 abbrev pub status_behind : ℕ → ℕ → ℕ
 status_behind posted shown = if nat_eq shown 0 then posted else shown
 

@@ -6,7 +6,7 @@ use Rattle.lot_io.specs.Writes.{WritesMade}
 use Rattle.lot_report.specs.Printed.{line}
 use Rattle.lot_cli.specs.Says.{Halts, Succeeds, Told}
 use Rattle.lot_cli.specs.declared.halt.Halt.TheVariants as halt
-use Rattle.lot_store.specs.Create.{IsHandedBack, LeavesNew, RefusedFor}
+use Rattle.lot_store.specs.Create.{IsHandedBack, LeavesAfter, LeavesNew, RefusedFor}
 use Rattle.lot_store.specs.declared.fault.CreateFault.{CreateFault}
 use Rattle.lot_store.specs.declared.fault.CreateFault.TheVariants.{NotABook}
 use Rattle.lot_table.specs.Shape.{schema_of}
@@ -22,14 +22,14 @@ pub record IsMade (old new : State) : Type 0 where
   pub empty : old.now.schema ≡ schema_of []
   pub crash : Survives old new (LeavesNew old)
 
--- none is made, for what the fault says, and the database is handed back as it was; after a commit that failed a crash may
+-- none is made, for what the fault says, and the database is handed back as it was; only after a commit that failed may a crash
 -- leave one
 pub record IsNotMade (old new : State) (fault : CreateFault) : Type 0 where
   pub refused : HasCleanDisk new → RefusedFor old new fault
   pub other : old.now.schema ≢ schema_of [] → fault ≡ NotABook
   pub handed_back : HasCleanDisk new → IsHandedBack old new
   pub kept : HasCleanDisk new → KeepsCommit old new
-  pub crash : Survives old new (LeavesNew old)
+  pub crash : Survives old new (LeavesAfter fault old)
 
 abbrev pub Makes : State → State → Option (List ℕ) → Option (List ℕ) → WritesMade → Told → Type 0
 Makes old new before written calls told =

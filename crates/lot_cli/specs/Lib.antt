@@ -9,6 +9,7 @@ pub mod Reports
 pub mod Reconcile
 pub mod Check
 pub mod Serve
+pub mod Preview
 pub mod Sessions
 pub mod Reopen
 pub mod AllOrNone

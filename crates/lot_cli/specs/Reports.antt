@@ -19,13 +19,14 @@ use Rattle.lot_cli.specs.Says.{Halts, Says, Told}
 use Rattle.lot_cli.specs.declared.halt.Halt.TheVariants as halt
 use Rattle.lot_args.specs.declared.action.Format.TheVariants.{Csv, Text}
 use Rattle.lot_args.specs.declared.action.Report.{Report}
-use Rattle.lot_args.specs.declared.action.Report.TheVariants.{Holdings, HoldingsOn, Gains, GainsBy, Register, Activity, Journal, Dump}
+use Rattle.lot_args.specs.declared.action.Report.TheVariants.{Holdings, HoldingsOn, Gains, GainsBy, AddedGains, Register, Activity, Journal, Dump}
 use Rattle.lot_book_report.specs.Csv.{ShowsAllHoldingsCsv, ShowsAllSalesCsv, ShowsGainsCsv, ShowsHoldingsCsv, ShowsSomeGainsCsv, ShowsSomeHoldingsCsv}
 use Rattle.lot_book_report.specs.Dump.{ShowsDump, ShowsDumpOfTables, ShowsSomeDump, digest_line, digest_of}
 use Rattle.lot_book_report.specs.declared.digest.BookDigest.{BookDigest}
 use Rattle.lot_book_report.specs.Fault.{HasCause, fault_name, is_of_writer}
 use Rattle.lot_book_report.specs.Gains.{ShowsAllSales, ShowsGains, ShowsSomeGains}
 use Rattle.lot_activity.specs.Scope.{Asked}
+use Rattle.lot_added_report.specs.Show.{ShowsAddedGains, ShowsAllAddedSales}
 use Rattle.lot_activity.specs.Table.{Terms, terms_with}
 use Rattle.lot_noted.specs.Book.{Asked as AskedLegs, register_legs}
 use Rattle.lot_period.specs.declared.period.PeriodLength.{PeriodLength}
@@ -171,14 +172,16 @@ ShowsAllGainsAs Text range tables = ShowsAllSales tables range
 ShowsAllGainsAs Csv range tables = ShowsAllSalesCsv tables range
 
 -- How much of a report of a book with these entries and that place of migration is written. The report is of what it holds, or held
--- at the end of a day, with what its lots are worth on a day; of what its sales gained from the first to the last day, both included,
--- or of the sums of that by keys; of the legs of accounts on such days; of what went into accounts and out of them on such days, by
--- period; or of its entries, as a journal or as a dump. All but the last two are as text or as CSV. The dump alone says the place.
+-- at the end of a day, with what its lots are worth on a day; of what its sales gained from the first to the last day, both
+-- included, or of the sums of that by keys; of what the sales of the entries behind a number gained; of the legs of accounts on such
+-- days; of what went into accounts and out of them on such days, by period; or of its entries, as a journal or as a dump. All are as
+-- text, and all but that of the entries behind a number and the last two also as CSV. The dump alone says the place.
 abbrev pub ShowsReport : Report → ℕ → List Entry → Option (List ℕ) → Option (List ℕ) → Result (Unit {0}) ShowFault → Type 0
 ShowsReport (Holdings day format) place entries = ShowsHoldingsAs format day entries
 ShowsReport (HoldingsOn on day format) place entries = ShowsHoldingsOn (form_of format) on day entries
 ShowsReport (Gains first last format) place entries = ShowsGainsAs format (first, last) entries
 ShowsReport (GainsBy first last by format) place entries = ShowsGainsBy by.items (form_of format) entries (first, last)
+ShowsReport (AddedGains behind) place entries = ShowsAddedGains entries behind
 ShowsReport (Register account commodity first last format) place entries =
     ShowsRegister (form_of format, first) (register_legs (legs_for account commodity last) entries)
 ShowsReport (Activity account length first last format) place entries = ShowsActivity (terms_for account length first last format) entries
@@ -191,6 +194,7 @@ ShowsSome (Holdings day format) = ShowsSomeHoldingsAs format day
 ShowsSome (HoldingsOn on day format) = ShowsSomeHoldingsOn (form_of format) on
 ShowsSome (Gains first last format) = ShowsSomeGainsAs format
 ShowsSome (GainsBy first last by format) = ShowsSomeGainsBy by.items (form_of format)
+ShowsSome (AddedGains behind) = ShowsSomeGains
 ShowsSome (Register account commodity first last format) = ShowsSomeRegister (form_of format, first)
 ShowsSome (Activity account length first last format) = ShowsSomeActivity (terms_for account length first last format)
 ShowsSome Journal = ShowsSomeJournal
@@ -203,6 +207,7 @@ ShowsAllRows (Holdings day format) tables = ShowsAllHoldingsAs format day tables
 ShowsAllRows (HoldingsOn on day format) tables = ShowsAllHoldingsOn (form_of format) on day tables
 ShowsAllRows (Gains first last format) tables = ShowsAllGainsAs format (first, last) tables
 ShowsAllRows (GainsBy first last by format) tables = ShowsAllSalesBy by.items (form_of format) tables (first, last)
+ShowsAllRows (AddedGains behind) tables = ShowsAllAddedSales tables behind
 ShowsAllRows (Register account commodity first last format) tables =
     ShowsAllLegs (form_of format, first) (legs_for account commodity last) tables
 ShowsAllRows (Activity account length first last format) tables = ShowsAllActivity (terms_for account length first last format) tables

@@ -6,7 +6,8 @@ ghost use Rattle.sqlite.specs.Held.{state};
 ghost use Rattle.sqlite.specs.State.{HasCleanDisk};
 ghost use Rattle.sqlite.specs.Tree.{Trees};
 ghost use Rattle.lot_io.specs.Reads.{reads_between};
-ghost use Rattle.lot_cli.specs.Says.{told};
+ghost use Rattle.lot_cli.specs.Says.{Halts, told};
+ghost use Rattle.lot_cli.specs.declared.halt.Halt.TheVariants.{Create};
 ghost use Rattle.lot_io.specs.Writes.{writes_between};
 ghost use Rattle.lot_input.specs.Input.{reading_between};
 
@@ -28,7 +29,7 @@ use lot_export::Aside;
 use lot_io::{CountedRead, CountedWrite};
 use lot_migrate::Progress;
 use lot_report::print_texts;
-use lot_store::{HandedBack, create};
+use lot_store::{CreateFault, HandedBack, create};
 use lot_stream::Status;
 use sqlite::{Alter, Connection};
 use std::alloc::Global;
@@ -158,6 +159,22 @@ fn init<W: CountedWrite, S: Alter>(alloc: Global, writer: &mut W, conn: Connecti
                 conn: book.into_connection(),
             }
         }
-        Err(HandedBack { fault, conn }) => halted(writer, Halt::Create(fault), conn),
+        Err(left) => not_made(writer, left),
     }
+}
+
+/// Reports the very fault for which no book was made, and hands the connection on.
+pub(crate) fn not_made<W: CountedWrite, S: Alter>(
+    writer: &mut W,
+    left: HandedBack<S, CreateFault>,
+) -> Served<S>
+    ensures says { Halts (Create left.fault)
+        (W.contents writer.old) (W.contents writer.new)
+        (writes_between (W.calls writer.old) (W.calls writer.new))
+        (told result.status result.halt) }
+    ensures same { result.conn ≡ left.conn }
+    ensures status { IsStatus result.status }
+{
+    let HandedBack { fault, conn } = left;
+    halted(writer, Halt::Create(fault), conn)
 }

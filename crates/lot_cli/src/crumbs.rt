@@ -16,17 +16,17 @@ ghost use Rattle.lot_io.specs.Reads.{reads_between};
 ghost use Rattle.lot_cli.specs.Says.{told};
 ghost use Rattle.lot_io.specs.Writes.{writes_between};
 
-use crate::action::Served;
+use crate::action::{Served, not_made};
 use crate::halt::Halt;
 use crate::report::write_whole;
-use crate::run::{halted, say_halt, status_of_run};
+use crate::run::{say_halt, status_of_run};
 use lot_args::{Batch, Format, Report};
 use lot_completion::Watch;
 use lot_import::Numbered;
 use lot_input::{InputFault, keyed_text};
 use lot_io::{CountedRead, CountedWrite};
 use lot_rounding::Rounding;
-use lot_store::{Book, Ending, HandedBack, RunEnd, create};
+use lot_store::{Book, Ending, RunEnd, create};
 use sqlite::{Alter, Connection};
 use std::alloc::Global;
 
@@ -64,7 +64,7 @@ pub(crate) fn check_with<R: CountedRead, W: CountedWrite, N: Watch, S: Alter>(
                 conn: book.into_connection(),
             }
         }
-        Err(HandedBack { fault, conn }) => halted(writer, Halt::Create(fault), conn),
+        Err(left) => not_made(writer, left),
     }
 }
 
@@ -150,8 +150,8 @@ fn show_behind<W: CountedWrite, S: Alter>(
     }
 }
 
-/// Returns the status of commands, unless the holdings behind them couldn't be written.
-fn status_behind(posted: u8, shown: u8) -> u8
+/// Returns the status of commands, unless a report behind them couldn't be written.
+pub(crate) fn status_behind(posted: u8, shown: u8) -> u8
     ensures { result ≡ status_behind posted shown }
 {
     if shown == 0 { posted } else { shown }

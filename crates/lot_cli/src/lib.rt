@@ -4,6 +4,7 @@
 //! - `action`: `serve`, and what an action leaves.
 //! - `post`: ledger text posted to the book that is there; `import`: a broker file. `lot_input` says what an input gives.
 //! - `crumbs`: a check with an account that takes crumbs.
+//! - `preview`: what is told of the book that a dry run would leave.
 //! - `migration`: a book of edition 1 taken over; `verification`: a book verified.
 //! - `restoration`: a book made of a dump; `unrestored`: why none is; `difference`: how it differs from another.
 //! - `run`: commands run on the book that is there, each in one commit, or all in one or none.
@@ -22,6 +23,7 @@ mod import;
 pub mod laws;
 mod migration;
 mod post;
+mod preview;
 mod reconciliation;
 mod report;
 mod restoration;
@@ -33,7 +35,7 @@ mod verification;
 pub use action::{Served, serve};
 pub use difference::tell_differences;
 pub use halt::Halt;
-pub use lot_args::{Action, Effect, Notes, Request, Restore, parse_words};
+pub use lot_args::{Action, Effect, Notes, Preview, Request, Restore, parse_words};
 pub use lot_atomic::Look;
 pub use lot_completion::{Note, Watch};
 pub use lot_export::{Aside, Export, ExportFault};
@@ -45,5 +47,6 @@ pub use lot_restore::RestoreFault;
 pub use lot_store::{AdoptFault, CreateFault};
 pub use lot_stream::Status;
 pub use lot_verify::VerifyFault;
+pub use preview::serve_with_preview;
 pub use run::say_halt;
 pub use showing::{Shown, show};

@@ -22,6 +22,7 @@ use crate::action::Served;
 use crate::halt::Halt;
 use crate::run::{halted, tell};
 use lot_activity::Scope;
+use lot_added_report::show_added_gains;
 use lot_args::{Format, Report};
 use lot_base::{Commodity, Day};
 use lot_book_report::{
@@ -139,6 +140,7 @@ fn show<W: CountedWrite, S: Alter>(
             by,
             format,
         } => show_gains_by(alloc, book, *first, *last, by, form_of(*format), writer),
+        Report::AddedGains { behind } => show_added_gains(alloc, book, *behind, writer),
         Report::Register {
             account,
             commodity,
@@ -321,7 +323,7 @@ pub(crate) fn conclude<W: CountedWrite>(
 }
 
 /// Reports why a report ends before its end, and returns the status of the program.
-fn stopped<W: CountedWrite>(writer: &mut W, fault: ShowFault) -> u8
+pub(crate) fn stopped<W: CountedWrite>(writer: &mut W, fault: ShowFault) -> u8
     ensures says { Says (report_line fault) Stopped
         (W.contents writer.old) (W.contents writer.new)
         (writes_between (W.calls writer.old) (W.calls writer.new)) result }

@@ -24,3 +24,12 @@ module _ {A B : Type 0} {g : Ghosts (Medium A B)} where
       → IfOk result (λ database. IsOverMemory (conn database))
   over_memory conn files (Ok database) found = λ clean. (in_memory files, (tt, tt), found clean)
   over_memory conn files (Err cause) found = found
+
+  -- one, where there is one, that found what files in memory held of which that is so
+  pub over_files : {D : Type 0} (conn : D → Held (FileStore (Medium A B) g)) (AreSo : Files B → Type 0) (files : Files B)
+      (result : Result D Cause) → AreSo files
+      → IfOk result (λ database. HasCleanDisk (file_state (conn database)) → Finds (in_memory files) (conn database))
+      → IfOk result (λ database. (x : Files B) × AreSo x
+      × (HasCleanDisk (file_state (conn database)) → Finds (in_memory x) (conn database)))
+  over_files conn AreSo files (Ok database) so found = (files, so, found)
+  over_files conn AreSo files (Err cause) so found = found

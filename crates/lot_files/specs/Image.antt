@@ -6,6 +6,7 @@ use Rattle.std.specs.declared.io.ErrorKind.{ErrorKind}
 use Rattle.std.specs.declared.io.ErrorKind.TheVariants as kind
 use Rattle.std.specs.declared.vec.Vec.{Vec}
 use Rattle.lot_files.specs.Cause.{system_cause}
+use Rattle.lot_files.specs.Entry.{bytes_in}
 use Rattle.lot_files.specs.declared.cause.Cause.{Cause}
 use Rattle.lot_files.specs.declared.image.Image.{Image}
 
@@ -23,7 +24,11 @@ abbrev pub copy_without : ErrorKind → SystemError → Result (List ℕ) Cause
 copy_without kind.NotFound error = Ok []
 copy_without _ error = Err (system_cause error)
 
--- the bytes of a copy of a file that was read so
+-- the bytes of a copy of a file of which that was read
+abbrev pub copy_from : Result (List ℕ) SystemError → Result (List ℕ) Cause
+copy_from (Ok bytes) = Ok bytes
+copy_from (Err error) = copy_without (error_kind error) error
+
+-- the same of a file that was read so
 abbrev pub copy_of : {A : Type 0} → Result (Vec ℕ A) SystemError → Result (List ℕ) Cause
-copy_of (Ok bytes) = Ok bytes.items
-copy_of (Err error) = copy_without (error_kind error) error
+copy_of read = copy_from (bytes_in read)

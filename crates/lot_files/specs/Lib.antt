@@ -1,7 +1,12 @@
+pub mod BookFiles
 pub mod Cause
 pub mod Copy
+pub mod Entry
 pub mod Image
 pub mod Medium
 pub mod Noted
 pub mod Opened
+pub mod Opener
 pub mod Path
+pub mod Refusal
+pub mod Shown

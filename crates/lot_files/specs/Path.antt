@@ -1,14 +1,27 @@
 -- Which paths can be those of a book.
-use Rattle.std.specs.Prelude.{◌<◌, ◌||◌, ◌++◌, Bool, IsSomeAnd, List, ℕ, Result, Ok, Err, codes, if◌then◌else◌, length, nat_eq}
+use Rattle.std.specs.Prelude.{◌==◌, ◌||◌, ◌++◌, Bool, false, List, ℕ, Option, None, Some, Result, Ok, Err, codes, if◌then◌else◌, length, nat_eq, nat_lt}
 use Rattle.std.specs.List.{ends_with, starts_with}
-use Rattle.std.specs.Path.{path_file_name}
+use Rattle.std.specs.Path.{path_file_name, path_parent}
 use Rattle.std.specs.Str.{bytes_eq}
 use Rattle.lot_files.specs.declared.cause.Cause.{Cause}
 use Rattle.lot_files.specs.declared.cause.Cause.TheVariants.{Folder, NoFile}
 
--- the name of the file is longer than that of a book may be
-abbrev pub HasLongName : List ℕ → Type 0
-HasLongName path = IsSomeAnd (path_file_name path) (λ name. 247 < length name)
+-- the name of a file is longer than that of a book may be
+abbrev pub is_long_name : Option (List ℕ) → Bool
+is_long_name None = false
+is_long_name (Some name) = nat_lt 247 (length name)
+
+-- the same of the name in a path
+abbrev pub has_long_name : List ℕ → Bool
+has_long_name path = is_long_name (path_file_name path)
+
+-- the folder that stands in front of the name in a path, where one does
+abbrev pub named_folder : Option (List ℕ) → Option (List ℕ)
+named_folder None = None
+named_folder (Some folder) = if length folder == 0 then None else Some folder
+
+abbrev pub folder_of : List ℕ → Option (List ℕ)
+folder_of path = named_folder (path_parent path)
 
 -- the library of the database takes the path for a database in memory, or for a URI
 abbrev pub names_no_file : List ℕ → Bool

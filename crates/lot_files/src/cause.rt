@@ -1,13 +1,11 @@
 //! Why the book in a file can't be opened.
 
-ghost use Rattle.std.specs.Prelude.{◌≡◌, ◌≢◌};
+ghost use Rattle.std.specs.Prelude.{◌≡◌};
 ghost use Rattle.lot_files.specs.Cause.{cause_or, copy_cause, library_cause};
 
-use crate::files::{is_missing, locate};
 use sqlite::{Error, ErrorCode};
 use std::alloc::AllocError;
 use std::fmt;
-use std::fs::{self, OpenOptions};
 use std::io::{self, ErrorKind};
 
 /// Why the book in a file can't be opened.
@@ -137,40 +135,4 @@ impl fmt::Display for Cause {
             Cause::System(error) => return write!(f, "{error}"),
         })
     }
-}
-
-/// Returns why the library didn't open the book in the file of that path. Where it doesn't say so
-/// itself, the system is asked again what it was asked.
-pub(crate) fn why(rt: &HostRuntime, path: &str, error: Error) -> Cause
-    ensures { library_cause error ≢ Cause.Library ErrorCode.CannotOpen
-        → result ≡ library_cause error }
-{
-    match Cause::of_library(error) {
-        Cause::Library(ErrorCode::CannotOpen) => match refused(rt, path) {
-            Ok(()) => Cause::Library(ErrorCode::CannotOpen),
-            Err(cause) => cause,
-        },
-        cause => cause,
-    }
-}
-
-/// Returns why the system refuses the file of that path or its log, where it does.
-fn refused(rt: &HostRuntime, path: &str) -> Result<(), Cause> {
-    if is_missing(rt, path) {
-        open_or_make(rt, path)?;
-    }
-    let files = locate(rt, path)?;
-    open_or_make(rt, files.book.as_str())?;
-    open_or_make(rt, files.log.as_str())
-}
-
-/// Opens a file for reading and writing, or makes it, as the library does.
-fn open_or_make(rt: &HostRuntime, path: &str) -> Result<(), Cause> {
-    let is_new = fs::symlink_metadata(rt, path).is_err();
-    let _file = OpenOptions::new()
-        .read(true)
-        .write(true)
-        .create_new(is_new)
-        .open(rt, path)?;
-    Ok(())
 }

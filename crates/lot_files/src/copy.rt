@@ -1,23 +1,27 @@
 //! A copy in memory of a book: of its file and its log, which are opened for reading alone.
 
-ghost use Rattle.std.specs.Prelude.{◌≡◌, IfErr, IfOk};
+ghost use Rattle.std.specs.Prelude.{◌≡◌, ◌⊎◌, IfErr, IfOk};
 ghost use Rattle.sqlite.specs.Files.{Finds, file_state};
 ghost use Rattle.sqlite.specs.State.{HasCleanDisk};
+ghost use Rattle.sqlite_disk.specs.declared.files.Files.{Files as FilesOf};
 ghost use Rattle.lot_files.specs.Cause.{IsOfCopy};
 ghost use Rattle.lot_files.specs.Copy.{IsCopied, IsUncopied};
 ghost use Rattle.lot_files.specs.Image.{copy_of, held_by};
 ghost use Rattle.lot_files.specs.Medium.{in_memory};
 ghost use Rattle.lot_files.specs.Opened.{IsOverMemory, IsReady};
+ghost use Rattle.lot_files.specs.Shown.{IsOriginal, ShowsNothing};
+ghost use Rattle.lot_files.specs.declared.image.Image.{Image as ImageOf};
 
 use crate::cause::Cause;
-use crate::files::{ensure_names_file, is_missing, locate};
+use crate::file_system::FileSystem;
+use crate::files::{ensure_names_file, is_missing};
 use crate::image::Image;
+use crate::located::{Located, locate};
 use crate::medium::Medium;
 use crate::opened::Database;
-use crate::source::{Source, SystemFiles};
+use crate::source::{BookFiles, Source};
 use sqlite::{Connection, Files, Options};
 use std::alloc::Global;
-use std::fs;
 use std::io::{self, ErrorKind};
 
 /// How often files that change meanwhile are read.
@@ -36,18 +40,59 @@ pub(crate) fn open_copy<'a>(rt: &HostRuntime, path: &str) -> Result<Database<'a>
     ensures ready { IfOk result (λ database. IsReady database.conn) }
     ensures over { IfOk result (λ database. IsOverMemory database.conn) }
 {
-    let alloc = rt.alloc();
-    if is_missing(rt, path) && fs::symlink_metadata(rt, path).is_err() {
-        ensure_names_file(path)?;
-        return open_nothing(alloc);
+    match original(rt, rt.alloc(), path)? {
+        Some(located) => open_copy_of(rt, &located),
+        None => open_nothing(rt.alloc()),
     }
-    let located = locate(rt, path)?;
-    let mut source = SystemFiles {
-        rt,
-        located: &located,
-    };
-    let files = copied(alloc, &mut source)?;
+}
+
+/// Opens a copy of the database in these files.
+fn open_copy_of<'a>(rt: &HostRuntime, located: &Located) -> Result<Database<'a>, Cause>
+    ensures ready { IfOk result (λ database. IsReady database.conn) }
+    ensures over { IfOk result (λ database. IsOverMemory database.conn) }
+{
+    open_copied(rt.alloc(), &mut BookFiles { fs: rt, located })
+}
+
+/// Opens a copy of the database whose files are read there.
+fn open_copied<'a, S: Source>(alloc: Global, source: &mut S) -> Result<Database<'a>, Cause>
+    ensures ready { IfOk result (λ database. IsReady database.conn) }
+    ensures over { IfOk result (λ database. IsOverMemory database.conn) }
+    ensures shows { IfOk result (λ database. (files : FilesOf ImageOf)
+        × IsCopied S.Source source.old files source.new
+        × (HasCleanDisk (file_state database.conn) → Finds (in_memory files) database.conn)) }
+    ensures cause { IfErr result (λ cause.
+        IsUncopied S.Source 100 source.old cause source.new ⊎ IsOfCopy cause) }
+{
+    let files = copied(alloc, source)?;
     open_images(alloc, files, Options::new(SEED))
+}
+
+/// Returns the files that a copy is made of: those of the book to which the path leads, and none
+/// where nothing is there.
+fn original<F: FileSystem>(fs: &F, alloc: Global, path: &str) -> Result<Option<Located>, Cause>
+    ensures { IsOriginal F.FileSystem fs.now path.now result }
+{
+    if has_nothing(fs, path) {
+        return match ensure_names_file(path) {
+            Ok(()) => Ok(None),
+            Err(cause) => Err(cause),
+        };
+    }
+    match locate(fs, alloc, path) {
+        Ok(located) => Ok(Some(located)),
+        Err(cause) => Err(cause),
+    }
+}
+
+/// Returns whether nothing is at that path, not even a link, in a folder that is there.
+fn has_nothing<F: FileSystem>(fs: &F, path: &str) -> bool
+    ensures { ShowsNothing F.FileSystem fs.now path.now result }
+{
+    if !is_missing(fs, path) {
+        return false;
+    }
+    fs.symlink_metadata(path).is_err()
 }
 
 /// Opens an empty database in memory.

@@ -1,22 +1,26 @@
-//! The files of a book: its own, and its log beside it.
+//! The files of a book: its own, and its log beside it; and what a path of one leads to.
 
-ghost use Rattle.std.specs.Prelude.{◌≡◌, ◌↔◌, IfOk, IsTrue};
+ghost use Rattle.std.specs.Prelude.{◌≡◌, false, IfOk, IsOk, option_copied};
 ghost use Rattle.std.specs.String.{string_bytes};
 ghost use Rattle.lot_files.specs.Cause.{opening_error};
+ghost use Rattle.lot_files.specs.Entry.{zero_byte};
 ghost use Rattle.lot_files.specs.Opened.{IsOverSystem, IsReady};
-ghost use Rattle.lot_files.specs.Path.{HasLongName, library_path, names_file, names_no_file};
+ghost use Rattle.lot_files.specs.Path.{folder_of, has_long_name, library_path, names_file};
+ghost use Rattle.lot_files.specs.Path.{names_no_file};
+ghost use Rattle.lot_files.specs.Shown.{AllowsBook, AllowsFile, ShowsEmpty, ShowsFolder};
+ghost use Rattle.lot_files.specs.Shown.{ShowsMissing};
 
-use crate::cause::{Cause, why};
+use crate::cause::Cause;
+use crate::file_system::{FileSystem, is_absent, is_file_of, is_folder};
 use crate::medium::Medium;
 use crate::noted::{Failure, Noted};
 use crate::opened::Database;
+use crate::refusal::{why, why_over};
 use sqlite::{Connection, Error, ErrorCode, Files, Options, Unknown};
 use sqlite_std_file::OpenError;
 use std::alloc::{AllocError, Global};
-use std::fs;
 use std::hash::{BuildHasher, RandomState};
-use std::io::{self, ErrorKind, Read};
-use std::os::unix::fs::MetadataExt;
+use std::io::{self, ErrorKind};
 use std::path::Path;
 
 /// How many pages that were read are kept in memory.
@@ -48,10 +52,10 @@ pub(crate) fn open<'a>(
             log: Medium::System(Noted::new(log, failure)),
             db: Medium::System(Noted::new(db, failure)),
         },
-        Err(error) => return Err(why(rt, path, opening_error(error))),
+        Err(error) => return Err(why(rt, rt.alloc(), path, opening_error(error))),
     };
     let Ok(seed) = RandomState::new(rt) else {
-        return Err(why(rt, path, CANNOT_OPEN));
+        return Err(why(rt, rt.alloc(), path, CANNOT_OPEN));
     };
     let options = Options {
         cache_pages: CACHE_PAGES,
@@ -60,7 +64,7 @@ pub(crate) fn open<'a>(
     };
     match Connection::open_files(rt.alloc(), files, options) {
         Ok(conn) => Ok(Database { conn }),
-        Err((error, _left)) => Err(why(rt, path, error).or_of(failure.cause())),
+        Err((error, _left)) => Err(why_over(rt, rt.alloc(), path, error, &failure)),
     }
 }
 
@@ -76,94 +80,79 @@ fn opening_error(error: OpenError) -> Error
     }
 }
 
-/// The files of a book, by paths without a link in them.
-#[derive(Drop)]
-pub struct Located {
-    pub book: String,
-    pub log: String,
-}
-
-/// Finds the files of the book at that path. The error is why they can't be those of a book,
-/// whatever they hold.
-pub fn locate(rt: &HostRuntime, path: &str) -> Result<Located, Cause> {
-    let real = match fs::canonicalize(rt, path) {
-        Ok(real) => real,
-        Err(error) if error.kind() == ErrorKind::NotFound && !has_folder(rt, path) => {
-            return Err(Cause::NoFolder);
-        }
-        Err(error) => return Err(error.into()),
-    };
-    let book = real.as_str();
-    let found = fs::metadata(rt, book)?;
-    if found.is_dir() {
-        return Err(Cause::Folder);
-    }
-    if !found.is_file() {
-        return Err(Cause::Irregular);
-    }
-    if found.nlink() != 1 {
-        return Err(Cause::SecondName);
-    }
-    if has_journal(rt, format!(in rt.alloc(); "{book}-journal")?.as_str())? {
-        return Err(Cause::Journal);
-    }
-    Ok(Located {
-        book: String::from_str(rt.alloc(), book)?,
-        log: format!(in rt.alloc(); "{book}-wal")?,
-    })
-}
-
-/// Returns whether there is something of that path other than a journal with nothing to play back.
-fn has_journal(rt: &HostRuntime, path: &str) -> io::Result<bool> {
-    match fs::symlink_metadata(rt, path) {
-        Ok(found) if found.is_file() => Ok(!matches!(first_byte(rt, path)?, None | Some(0))),
-        Ok(_) => Ok(true),
-        Err(error) if error.kind() == ErrorKind::NotFound => Ok(false),
-        Err(error) => Err(error),
-    }
-}
-
 /// Returns whether there is no file of that path in a folder that is there.
-pub fn is_missing(rt: &HostRuntime, path: &str) -> bool {
-    let is_absent =
-        matches!(fs::metadata(rt, path), Err(error) if error.kind() == ErrorKind::NotFound);
-    is_absent && has_folder(rt, path)
+pub fn is_missing<F: FileSystem>(fs: &F, path: &str) -> bool
+    ensures { ShowsMissing F.FileSystem fs.now path.now result }
+{
+    if !is_absent(&fs.metadata(path)) {
+        return false;
+    }
+    has_folder(fs, path)
 }
 
 /// Returns whether the folder of that path is there.
-fn has_folder(rt: &HostRuntime, path: &str) -> bool {
-    match Path::new(path).parent() {
+pub(crate) fn has_folder<F: FileSystem>(fs: &F, path: &str) -> bool
+    ensures { ShowsFolder F.FileSystem fs.now path.now result }
+{
+    match folder_of(path) {
+        Some(folder) => is_folder(&fs.metadata(folder)),
         // A name alone is one in the folder in which the program runs.
-        Some(folder) if !folder.as_str().is_empty() => {
-            matches!(fs::metadata(rt, folder), Ok(found) if found.is_dir())
-        }
-        _ => !path.is_empty(),
+        None => !path.is_empty(),
+    }
+}
+
+/// Returns the folder that stands in front of the name in a path, where one does.
+fn folder_of(path: &str) -> Option<&str>
+    ensures { option_copied result ≡ folder_of path.now }
+{
+    match Path::new(path).parent() {
+        Some(folder) if !folder.as_str().is_empty() => Some(folder.as_str()),
+        _ => None,
     }
 }
 
 /// Returns whether there is an empty file of that path.
-pub(crate) fn is_empty(rt: &HostRuntime, path: &str) -> bool {
-    matches!(fs::metadata(rt, path), Ok(found) if found.is_file() && found.len() == 0)
+pub(crate) fn is_empty<F: FileSystem>(fs: &F, path: &str) -> bool
+    ensures { ShowsEmpty F.FileSystem fs.now path.now result }
+{
+    is_file_of(&fs.metadata(path), 0)
 }
 
 /// Tests that the file of that path, if there is one, may be opened as that of a book. The error is
 /// that its name is too long, or that it is one byte, which isn't zero.
-pub fn ensure_openable(rt: &HostRuntime, path: &str) -> Result<(), Cause> {
+pub fn ensure_openable<F: FileSystem>(fs: &F, path: &str) -> Result<(), Cause>
+    ensures allows { AllowsBook F.FileSystem fs.now path.now result }
+    ensures short { IsOk result → has_long_name path.now ≡ false }
+{
     if has_long_name(path) {
         return Err(Cause::LongName);
     }
-    match fs::metadata(rt, path) {
-        Ok(found) if found.is_file() && found.len() == 1 => match first_byte(rt, path) {
-            Ok(Some(0)) => Ok(()),
-            _ => Err(Cause::OneByte),
-        },
-        _ => Ok(()),
+    ensure_no_byte(fs, path)
+}
+
+/// Tests that the file of that path, if there is one, isn't one byte, which isn't zero.
+fn ensure_no_byte<F: FileSystem>(fs: &F, path: &str) -> Result<(), Cause>
+    ensures { AllowsFile F.FileSystem fs.now path.now result }
+{
+    if !is_file_of(&fs.metadata(path), 1) {
+        return Ok(());
+    }
+    ensure_zero(fs.first_byte(path))
+}
+
+/// Tests that the one byte of a file is zero.
+fn ensure_zero(first: io::Result<Option<u8>>) -> Result<(), Cause>
+    ensures { result ≡ zero_byte first }
+{
+    match first {
+        Ok(Some(byte)) if byte == 0 => Ok(()),
+        _ => Err(Cause::OneByte),
     }
 }
 
 /// Returns whether the name of the file of that path is too long for that of a book.
 fn has_long_name(path: &str) -> bool
-    ensures { IsTrue result ↔ HasLongName path.now }
+    ensures { result ≡ has_long_name path.now }
 {
     match Path::new(path).file_name() {
         Some(name) => name.len() > LONGEST_NAME,
@@ -206,11 +195,4 @@ fn names_no_file(path: &str) -> bool
     ensures { result ≡ names_no_file path.now }
 {
     path == ":memory:" || path.as_bytes().starts_with(b"file:")
-}
-
-/// Returns the first byte of the file of that path, where there is one.
-fn first_byte(rt: &HostRuntime, path: &str) -> io::Result<Option<u8>> {
-    let mut first = [1];
-    let count = fs::File::open(rt, path)?.read(&mut first)?;
-    Ok(if count == 0 { None } else { Some(first[0]) })
 }

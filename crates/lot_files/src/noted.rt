@@ -1,10 +1,11 @@
 //! A file of the system that keeps why its last call failed: the library of the database makes a code
 //! of the error.
 
-ghost use Rattle.std.specs.Prelude.{◌≡◌};
-ghost use Rattle.lot_files.specs.Noted.{cause_in};
+ghost use Rattle.std.specs.Prelude.{◌≡◌, ⊤};
+ghost use Rattle.lot_files.specs.Noted.{IsKept, KeepsWhy, TellsKept, cause_in};
 
 use crate::cause::Cause;
+use crate::keeper::Keeper;
 use sqlite_disk::{Disk, Tally};
 use std::cell::Cell;
 use std::io::{self, ErrorKind};
@@ -20,19 +21,43 @@ impl Failure {
     }
 
     /// Returns why a call failed, where one did.
-    pub fn cause(&self) -> Option<Cause> {
-        Some(self.0.get()?.into())
+    pub fn cause(&self) -> Option<Cause>
+        ensures { IsKept result }
+    {
+        cause_kept(&self)
+    }
+}
+
+impl Keeper for &Failure {
+    ghost keeps = { λ _ _ _. ⊤ };
+
+    ghost holds = { λ _ _. ⊤ };
+
+    fn keep(&mut self, error: io::Error) {
+        self.0.set(Some(error));
     }
 
-    /// Passes on what a call came to, and keeps why it failed, where it did.
-    fn pass<T>(&self, outcome: io::Result<T>) -> io::Result<T>
-        ensures { result ≡ outcome }
-    {
-        if let Some(error) = cause_in(&outcome) {
-            self.0.set(Some(error));
-        }
-        outcome
+    fn kept(&self) -> Option<io::Error> {
+        self.0.get()
     }
+}
+
+/// Returns what the error says that is kept there, where there is one.
+pub(crate) fn cause_kept<K: Keeper>(keeper: &K) -> Option<Cause>
+    ensures { TellsKept K.Keeper keeper.now result }
+{
+    Some(keeper.kept()?.into())
+}
+
+/// Passes on what a call came to, and keeps why it failed, where it did.
+fn pass<K: Keeper, T>(keeper: &mut K, outcome: io::Result<T>) -> io::Result<T>
+    ensures same { result ≡ outcome }
+    ensures keeps { KeepsWhy K.Keeper keeper.old (cause_in outcome) keeper.new }
+{
+    if let Some(error) = cause_in(&outcome) {
+        keeper.keep(error);
+    }
+    outcome
 }
 
 /// Returns the error of a call that says why it failed. The end of a file doesn't.
@@ -114,27 +139,29 @@ impl<D: Disk> Disk for Noted<'_, D> {
     }
 
     fn len(&mut self) -> io::Result<usize> {
-        self.failure.pass(self.file.len())
+        pass(&mut self.failure, self.file.len())
     }
 
     fn read_at(&mut self, at: usize, buf: &mut [u8]) -> io::Result<()> {
-        self.failure.pass(self.file.read_at(at, buf))
+        pass(&mut self.failure, self.file.read_at(at, buf))
     }
 
     fn read_checked(&mut self, key: u64, want: u64, at: usize, buf: &mut [u8]) -> io::Result<()> {
-        self.failure
-            .pass(self.file.read_checked(key, want, at, buf))
+        pass(
+            &mut self.failure,
+            self.file.read_checked(key, want, at, buf),
+        )
     }
 
     fn write_at(&mut self, at: usize, bytes: &[u8]) -> io::Result<()> {
-        self.failure.pass(self.file.write_at(at, bytes))
+        pass(&mut self.failure, self.file.write_at(at, bytes))
     }
 
     fn set_len(&mut self, len: usize) -> io::Result<()> {
-        self.failure.pass(self.file.set_len(len))
+        pass(&mut self.failure, self.file.set_len(len))
     }
 
     fn sync(&mut self) -> io::Result<()> {
-        self.failure.pass(self.file.sync())
+        pass(&mut self.failure, self.file.sync())
     }
 }

@@ -1,7 +1,9 @@
 //! A database that is opened: that of a file, or a copy of it.
 
-ghost use Rattle.std.specs.Prelude.{IfOk};
+ghost use Rattle.std.specs.Prelude.{◌≡◌, IfOk, ⊤};
 ghost use Rattle.lot_files.specs.Opened.{IsOpenedFor, IsOverMemory, IsOverSystem, IsReady, IsSo};
+ghost use Rattle.lot_files.specs.Opener.{OpensCopy, OpensFor, OpensFull, OpensToRead};
+ghost use Rattle.lot_files.specs.Opener.{is_for_copy};
 
 use crate::cause::Cause;
 use crate::copy::open_copy;
@@ -9,6 +11,7 @@ use crate::files::{is_empty, open};
 use crate::image::Image;
 use crate::medium::Medium;
 use crate::noted::{Failure, Noted};
+use crate::opener::Opener;
 use sqlite::{Connection, File, FileStore};
 
 /// A file of a book: of the system, or of a copy in memory.
@@ -40,6 +43,41 @@ pub struct Database<'a> {
     pub conn: Connection<FileStore<BookFile<'a>>>,
 }
 
+/// The system as what opens the databases of books, whose files keep there why a call of them failed.
+#[derive(Drop)]
+struct SystemOpener<'a, 'b> {
+    rt: &'b HostRuntime,
+    failure: &'a Failure,
+}
+
+impl<'a> Opener for SystemOpener<'a, '_> {
+    type Database = Database<'a>;
+
+    ghost opens = { λ _ _ _. ⊤ };
+
+    ghost copies = { λ _ _ _. ⊤ };
+
+    ghost shows_empty = { λ _ _ _. ⊤ };
+
+    ghost is_in = { λ _ database. IsOverSystem database.conn };
+
+    ghost is_copy = { λ _ database. IsOverMemory database.conn };
+
+    ghost is_ready = { λ database. IsReady database.conn };
+
+    fn open(&self, path: &str) -> Result<Self::Database, Cause> {
+        open(self.rt, path, self.failure)
+    }
+
+    fn copy(&self, path: &str) -> Result<Self::Database, Cause> {
+        open_copy(self.rt, path)
+    }
+
+    fn has_empty(&self, path: &str) -> bool {
+        is_empty(self.rt, path)
+    }
+}
+
 /// Opens the book in the file of that path, which keeps there why a call of it failed.
 pub fn open_book<'a>(
     rt: &HostRuntime,
@@ -51,31 +89,61 @@ pub fn open_book<'a>(
         (λ _ database. IsOverMemory database.conn) access path.now) }
     ensures ready { IfOk result (IsSo (λ database. IsReady database.conn)) }
 {
+    open_for(&SystemOpener { rt, failure }, path, access)
+}
+
+/// Opens it by what it is opened for.
+fn open_for<O: Opener>(opener: &O, path: &str, access: Access) -> Result<Opened<O::Database>, Cause>
+    ensures opens { OpensFor O.Opener opener.now access path.now result }
+    ensures opened { IfOk result (IsOpenedFor O.is_in O.is_copy access path.now) }
+    ensures ready { IfOk result (IsSo O.is_ready) }
+{
     match access {
-        Access::Write => Ok(Opened::File(open(rt, path, failure)?)),
-        Access::Copy => Ok(Opened::Copy(open_copy(rt, path)?)),
-        Access::Read => open_to_read(rt, path, failure),
+        Access::Write => Ok(Opened::File(opener.open(path)?)),
+        Access::Copy => copy_of(opener, path),
+        Access::Read => open_to_read(opener, path),
     }
 }
 
-/// Opens it to be read.
-fn open_to_read<'a>(
-    rt: &HostRuntime,
-    path: &str,
-    failure: &'a Failure,
-) -> Result<Opened<Database<'a>>, Cause>
-    ensures opened { IfOk result (IsOpenedFor (λ _ database. IsOverSystem database.conn)
-        (λ _ database. IsOverMemory database.conn) Access.Read path.now) }
-    ensures ready { IfOk result (IsSo (λ database. IsReady database.conn)) }
+/// Opens a copy of it, to be tried on or read.
+fn copy_of<O: Opener>(opener: &O, path: &str) -> Result<Opened<O::Database>, Cause>
+    ensures opens { OpensCopy O.Opener opener.now path.now result }
+    ensures tried { IfOk result (IsOpenedFor O.is_in O.is_copy Access.Copy path.now) }
+    ensures read { IfOk result (IsOpenedFor O.is_in O.is_copy Access.Read path.now) }
+    ensures ready { IfOk result (IsSo O.is_ready) }
 {
-    if is_empty(rt, path) {
-        return Ok(Opened::Copy(open_copy(rt, path)?));
+    Ok(Opened::Copy(opener.copy(path)?))
+}
+
+/// Opens it to be read.
+fn open_to_read<O: Opener>(opener: &O, path: &str) -> Result<Opened<O::Database>, Cause>
+    ensures opens { OpensToRead O.Opener opener.now path.now result }
+    ensures opened { IfOk result (IsOpenedFor O.is_in O.is_copy Access.Read path.now) }
+    ensures ready { IfOk result (IsSo O.is_ready) }
+{
+    if opener.has_empty(path) {
+        return copy_of(opener, path);
     }
-    match open(rt, path, failure) {
+    full_of(opener, path)
+}
+
+/// Opens one that isn't empty to be read: its file, or a copy where that can't be opened to be
+/// written.
+fn full_of<O: Opener>(opener: &O, path: &str) -> Result<Opened<O::Database>, Cause>
+    ensures opens { OpensFull O.Opener opener.now path.now result }
+    ensures opened { IfOk result (IsOpenedFor O.is_in O.is_copy Access.Read path.now) }
+    ensures ready { IfOk result (IsSo O.is_ready) }
+{
+    match opener.open(path) {
         Ok(file) => Ok(Opened::File(file)),
-        Err(Cause::NoPermission | Cause::ReadOnly | Cause::InUse) => {
-            Ok(Opened::Copy(open_copy(rt, path)?))
-        }
+        Err(cause) if is_for_copy(cause) => copy_of(opener, path),
         Err(cause) => Err(cause),
     }
+}
+
+/// Returns whether a book that can't be opened for that cause can be copied.
+fn is_for_copy(cause: Cause) -> bool
+    ensures { result ≡ is_for_copy cause }
+{
+    matches!(cause, Cause::NoPermission | Cause::ReadOnly | Cause::InUse)
 }

@@ -1,18 +1,15 @@
 //! Where the files of a book are read, to be copied.
 
-ghost use Rattle.std.specs.Prelude.{◌≡◌, ◌↔◌, ℕ, List, IsTrue, Result, ⊤};
+ghost use Rattle.std.specs.Prelude.{◌≡◌, ◌↔◌, ℕ, List, IsTrue, Result};
+ghost use Rattle.lot_files.specs.BookFiles.{head_of, stamp_of};
 ghost use Rattle.lot_files.specs.Image.{copy_of};
 ghost use Rattle.lot_files.specs.declared.cause.Cause.{Cause as CauseOf};
 ghost use Rattle.lot_files.specs.declared.source.Stamp.{Stamp as StampOf};
 
 use crate::cause::Cause;
-use crate::files::Located;
-use std::fs;
-use std::io::{self, ErrorKind, Read};
-use std::os::unix::fs::MetadataExt;
-
-/// How many bytes at the head of a log say from when on it is written.
-const HEAD: usize = 32;
+use crate::file_system::{Entry, FileSystem, HEAD};
+use crate::located::Located;
+use std::io::{self, ErrorKind};
 
 /// Tells two states of the files of a book apart, unless commits were only put behind the log.
 ///
@@ -70,51 +67,75 @@ pub(crate) trait Source {
         ensures { reads_log self.old (copy_of result) self.new };
 }
 
-/// The files of a book in the system.
-#[derive(Drop)]
-pub(crate) struct SystemFiles<'a> {
-    pub(crate) rt: &'a HostRuntime,
+/// The files of a book in a file system.
+pub(crate) struct BookFiles<'a, F> {
+    pub(crate) fs: &'a F,
     pub(crate) located: &'a Located,
 }
 
-/// No contract of a call of the system says what a file holds.
-impl Source for SystemFiles<'_> {
-    ghost stamps = { λ _ _ _. ⊤ };
-
-    ghost reads_book = { λ _ _ _. ⊤ };
-
-    ghost reads_log = { λ _ _ _. ⊤ };
-
-    fn stamp(&mut self) -> Result<Stamp, Cause> {
-        let found = fs::metadata(self.rt, self.located.book.as_str())?;
-        Ok(Stamp {
-            number: found.ino(),
-            len: found.len(),
-            second: found.mtime(),
-            nanosecond: found.mtime_nsec(),
-            head: head(self.rt, self.located.log.as_str())?,
-        })
-    }
-
-    fn read_book(&mut self) -> io::Result<Vec<u8>> {
-        fs::read(self.rt, self.located.book.as_str())
-    }
-
-    fn read_log(&mut self) -> io::Result<Vec<u8>> {
-        fs::read(self.rt, self.located.log.as_str())
+impl<F> Drop for BookFiles<'_, F> {
+    /// It is written out, so that a file system need not be one that can be dropped.
+    fn drop(self) {
+        let BookFiles { fs: _, located: _ } = self;
     }
 }
 
+impl<F: FileSystem> Source for BookFiles<'_, F> {
+    ghost use Rattle.std.specs.Prelude.{◌≡◌};
+    ghost use Rattle.std.specs.String.{string_bytes};
+    ghost use Rattle.lot_files.specs.BookFiles.{GivesFile, GivesStamp};
+
+    ghost stamps = { λ s answer left. (left ≡ s) × GivesStamp F.FileSystem s.fs.now
+        (string_bytes s.located.now.book) (string_bytes s.located.now.log) answer };
+
+    ghost reads_book = { λ s answer left. (left ≡ s) × GivesFile F.FileSystem s.fs.now
+        (string_bytes s.located.now.book) answer };
+
+    ghost reads_log = { λ s answer left. (left ≡ s) × GivesFile F.FileSystem s.fs.now
+        (string_bytes s.located.now.log) answer };
+
+    fn stamp(&mut self) -> Result<Stamp, Cause> {
+        let entry = match self.fs.metadata(self.located.book.as_str()) {
+            Ok(entry) => entry,
+            Err(error) => return Err(error.into()),
+        };
+        stamp_of(entry, self.fs.log_head(self.located.log.as_str()))
+    }
+
+    fn read_book(&mut self) -> io::Result<Vec<u8>> {
+        self.fs.read(self.located.book.as_str())
+    }
+
+    fn read_log(&mut self) -> io::Result<Vec<u8>> {
+        self.fs.read(self.located.log.as_str())
+    }
+}
+
+/// Returns the stamp of a book's file and of what was read of the head of its log.
+fn stamp_of(entry: Entry, read: io::Result<[u8; HEAD]>) -> Result<Stamp, Cause>
+    ensures { result ≡ stamp_of entry (head_of read) }
+{
+    let head = match head_of(read) {
+        Ok(head) => head,
+        Err(cause) => return Err(cause),
+    };
+    Ok(Stamp {
+        number: entry.number,
+        len: entry.len,
+        second: entry.second,
+        nanosecond: entry.nanosecond,
+        head,
+    })
+}
+
 /// Returns the head of a log, all zeros where there is none.
-fn head(rt: &HostRuntime, path: &str) -> Result<[u8; HEAD], Cause> {
-    let mut head = [0; HEAD];
-    match fs::File::open(rt, path) {
-        Ok(mut file) => match file.read_exact(&mut head) {
-            Err(error) if error.kind() == ErrorKind::UnexpectedEof => Ok([0; HEAD]),
-            Err(error) => Err(error.into()),
-            Ok(()) => Ok(head),
-        },
-        Err(error) if error.kind() == ErrorKind::NotFound => Ok(head),
+fn head_of(read: io::Result<[u8; HEAD]>) -> Result<[u8; HEAD], Cause>
+    ensures { result ≡ head_of read }
+{
+    match read {
+        Ok(head) => Ok(head),
+        Err(error) if error.kind() == ErrorKind::UnexpectedEof => Ok([0; HEAD]),
+        Err(error) if error.kind() == ErrorKind::NotFound => Ok([0; HEAD]),
         Err(error) => Err(error.into()),
     }
 }

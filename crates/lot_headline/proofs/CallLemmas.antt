@@ -31,7 +31,7 @@ use Rattle.lot_rounding.specs.declared.rounding.Rounding.{Rounding}
 use Rattle.lot_rows.specs.Tables.{layout}
 use Rattle.lot_store.proofs.AdoptLemmas.{tells_book}
 use Rattle.lot_store.proofs.RunLemmas.{leaves_what_stands}
-use Rattle.lot_store.specs.Create.{LeavesNew}
+use Rattle.lot_store.specs.Create.{LeavesAfter}
 use Rattle.lot_store.specs.declared.fault.AdoptFault.{AdoptFault}
 use Rattle.lot_store.specs.declared.fault.AdoptFault.TheVariants as adopt
 use Rattle.lot_store.specs.declared.run.RunEnd.{RunEnd}
@@ -130,7 +130,7 @@ module _ (old new : State) (clean : HasCleanDisk new) (book : List Entry) (stand
   served (Check rounding) on input before written calls told serves = absurd on
   served (Init path) on input before written calls told (inl made) = absurd (has_tables old book stands made.0.empty)
   served (Init path) on input before written calls told (inr isnt) =
-      stays (LeavesNew old) (λ trees leaves. has_tables old book stands leaves.0) isnt.1.crash
+      stays (LeavesAfter isnt.0 old) (λ trees leaves. has_tables old book stands leaves.1.0) isnt.1.crash
   served (Migrate path) on input before written calls told serves = migrated before written calls told serves
   served (Post asked) on input before written calls told serves =
       ran_of before written calls asked.rounding (TextMeans asked.batch asked.from) IsFaultyText asked.keeping input told serves

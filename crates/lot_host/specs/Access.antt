@@ -36,7 +36,7 @@ makes_file _ = false
 -- what changes a book writes it where that is kept, and else is tried on a copy
 abbrev pub to_change : Effect → Access
 to_change Keep = Write
-to_change DryRun = Copy
+to_change (DryRun preview) = Copy
 
 -- a report reads the book; a check opens none, and is tried on an empty copy
 abbrev pub access_of : Action → Effect → Access

@@ -25,11 +25,11 @@ pub record IsStatusOfKind (kind : ErrorKind) (status : ℕ) : Type 0 where
   pub shown : (kind ≡ DisplayHelp) ⊎ (kind ≡ DisplayVersion) → IsShown status
   pub refused : kind ≢ DisplayHelp → kind ≢ DisplayVersion → status ≡ unusable
 
--- The status of words that ask for nothing to be done, by what is wrong with them. What is missing may take memory to say.
+-- The status of words that ask for nothing to be done, by what is wrong with them.
 abbrev pub IsStatusOf : WordsFault → ℕ → Type 0
 IsStatusOf (Usage error) status = IsStatusOfKind (kind_of error) status
 IsStatusOf (Misplaced option) status = status ≡ unusable
-IsStatusOf (MissingOptions needed) status = (status ≡ unusable) ⊎ (status ≡ stopped)
+IsStatusOf (MissingOptions needed) status = status ≡ unusable
 IsStatusOf (BadValue bad) status = status ≡ unusable
 IsStatusOf Memory status = status ≡ stopped
 

@@ -1,32 +1,48 @@
 -- What becomes of an action: on which database it is done, and with which status the program ends (docs/RULES.md, The program).
-use Rattle.std.specs.Prelude.{◌≡◌, ◌⊎◌, ◌≤◌, ◌<◌, ℕ, List, Option, None, Some, false, option_map, ⊤}
+use Rattle.std.specs.Prelude.{◌≡◌, ◌⊎◌, ◌≤◌, ◌<◌, ℕ, Bool, List, Option, None, Some, false, true, option_map, ⊤}
 use Rattle.lot_args.specs.declared.action.Action.{Action}
 use Rattle.lot_args.specs.declared.request.Effect.{Effect}
 use Rattle.lot_files.specs.Path.{library_path}
 use Rattle.lot_files.specs.declared.cause.Cause.{Cause}
+use Rattle.lot_files.specs.declared.opened.Access.{Access}
+use Rattle.lot_files.specs.declared.opened.Access.TheVariants.{Read}
 use Rattle.lot_host.specs.Access.{access_of, makes_file, old_of, path_of}
 use Rattle.lot_host.specs.Answers.{stopped}
 use Rattle.lot_files.specs.Opened.{IsFor}
 use Rattle.lot_host.specs.declared.host.Host.{Ghosts}
 
 module _ {H : Type 0} {D O : Type 0} (g : Ghosts H D O) where
-  -- The database of a path is opened as it is asked for. Where there is no file, and none is to be made, it is an empty one.
+  -- The database of a path is opened as it is asked for, where there is a file or one is to be made. Else it is an empty one.
+  abbrev IsOpenedAs : Bool → Access → List ℕ → D → Type 0
+  IsOpenedAs makes access path database =
+      (((makes ≡ true) ⊎ g.shows_missing path false) × IsFor g.is_in g.copies access path database)
+      ⊎ ((makes ≡ false) × g.shows_missing path true × g.is_empty database)
+
+  -- it is opened for an action
   abbrev IsOfPath : Action → Effect → List ℕ → D → Type 0
-  IsOfPath action effect path database =
-      IsFor g.is_in g.copies (access_of action effect) path database
-      ⊎ ((makes_file action ≡ false) × g.lacks path × g.is_empty database)
+  IsOfPath action effect path database = IsOpenedAs (makes_file action) (access_of action effect) path database
+
+  -- it is opened to be read
+  abbrev pub IsReadOf : List ℕ → D → Type 0
+  IsReadOf path database = IsOpenedAs false Read path database
 
   -- The database on which an action is done: that of the path which it names. A check names none, and is done on an empty one.
   abbrev IsItsOwn : Option (List ℕ) → Action → Effect → D → Type 0
   IsItsOwn None action effect database = g.is_empty database
   IsItsOwn (Some path) action effect database = IsOfPath action effect (library_path path) database
 
-  -- the old book is the one that the action names, where it names one
+  -- the old book is the one in the file of that path
+  pub record IsOldOf (path : List ℕ) (old : O) : Type 0 where
+    pub database : D
+    pub of_path : IsReadOf (library_path path) database
+    pub its : g.is_old database old
+
+  -- it is the one that the action names, where it names one
   abbrev IsItsOld : Option (List ℕ) → Option O → Type 0
   IsItsOld None None = ⊤
   IsItsOld None (Some old) = ⊥
   IsItsOld (Some path) None = ⊥
-  IsItsOld (Some path) (Some old) = g.is_old path old
+  IsItsOld (Some path) (Some old) = IsOldOf path old
 
   -- the status once an old book was compared with the new one, which wasn't made where a fault was met
   abbrev pub EndsWith : Option O → ℕ → D → ℕ → Type 0
@@ -34,25 +50,25 @@ module _ {H : Type 0} {D O : Type 0} (g : Ghosts H D O) where
   EndsWith (Some old) served left status =
       ((served ≤ 1) × g.compares served left old status) ⊎ ((1 < served) × (status ≡ served))
 
-  -- What an action comes to on a database, beside an old book where there is one: it is done there, and the status is what that comes
-  -- to.
-  pub record ComesTo (action : Action) (old : Option O) (database : D) (status : ℕ) : Type 0 where
+  -- What an action comes to on a database, beside an old book where there is one: it is done there, that is told of what is left
+  -- which the effect asks for, and the status is what that comes to.
+  pub record ComesTo (action : Action) (effect : Effect) (old : Option O) (database : D) (status : ℕ) : Type 0 where
     pub left : D
     pub served : ℕ
-    pub serves : g.serves action database served left
+    pub serves : g.serves action effect database served left
     pub ends : EndsWith old served left status
 
   -- an action comes to that on an empty database
-  pub record ComesToOfNothing (action : Action) (old : Option O) (status : ℕ) : Type 0 where
+  pub record ComesToOfNothing (action : Action) (effect : Effect) (old : Option O) (status : ℕ) : Type 0 where
     pub database : D
     pub empty : g.is_empty database
-    pub comes_to : ComesTo action old database status
+    pub comes_to : ComesTo action effect old database status
 
   -- an action comes to that on the database of a path
   pub record ComesToOfPath (action : Action) (effect : Effect) (path : List ℕ) (old : Option O) (status : ℕ) : Type 0 where
     pub database : D
     pub of_path : IsOfPath action effect path database
-    pub comes_to : ComesTo action old database status
+    pub comes_to : ComesTo action effect old database status
 
   -- the action is done on its own database, beside its old book
   pub record IsServed (action : Action) (effect : Effect) (status : ℕ) : Type 0 where
@@ -60,22 +76,34 @@ module _ {H : Type 0} {D O : Type 0} (g : Ghosts H D O) where
     pub old : Option O
     pub its_own : IsItsOwn (path_of action) action effect database
     pub its_old : IsItsOld (old_of action) old
-    pub comes_to : ComesTo action old database status
+    pub comes_to : ComesTo action effect old database status
 
-  -- the database of its path can't be opened, or no empty one
-  pub record IsNotOpened (action : Action) (status : ℕ) : Type 0 where
+  -- the database of a path can't be opened, or no empty one, and that cause is told
+  pub record IsNotOpened (named : Option (List ℕ)) (status : ℕ) : Type 0 where
     pub path : Option (List ℕ)
     pub cause : Cause
-    pub its_own : (path ≡ None) ⊎ (path ≡ option_map library_path (path_of action))
+    pub its_own : (path ≡ None) ⊎ (path ≡ option_map library_path named)
     pub refused : g.refuses path cause
+    pub told : g.tells_unopened cause status
     pub stops : status ≡ stopped
 
-  -- the old book that it names can't be taken up
-  pub record HasNoOld (action : Action) (status : ℕ) : Type 0 where
+  -- the database of a path is opened, and no book can be taken up there
+  pub record IsNotTakenUp (path : List ℕ) (status : ℕ) : Type 0 where
+    pub database : D
+    pub of_path : IsReadOf (library_path path) database
+    pub refused : g.refuses_old database status
+
+  -- there is no old book to be read in the file of that path
+  abbrev pub HasNoOld : List ℕ → ℕ → Type 0
+  HasNoOld path status = IsNotOpened (Some path) status ⊎ IsNotTakenUp path status
+
+  -- the old book that an action names can't be read
+  pub record LacksOld (action : Action) (status : ℕ) : Type 0 where
     pub path : List ℕ
     pub named : old_of action ≡ Some path
-    pub refused : g.refuses_old path status
+    pub lacks : HasNoOld path status
 
   -- what becomes of an action
   abbrev pub IsDone : Action → Effect → ℕ → Type 0
-  IsDone action effect status = IsNotOpened action status ⊎ HasNoOld action status ⊎ IsServed action effect status
+  IsDone action effect status =
+      IsNotOpened (path_of action) status ⊎ LacksOld action status ⊎ IsServed action effect status

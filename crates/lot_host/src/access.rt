@@ -65,6 +65,6 @@ fn to_change(effect: Effect) -> Access
 {
     match effect {
         Effect::Keep => Access::Write,
-        Effect::DryRun => Access::Copy,
+        Effect::DryRun(_) => Access::Copy,
     }
 }

@@ -1,13 +1,15 @@
 //! An action is done on the book that it names.
 
 ghost use Rattle.std.specs.Prelude.{◌≡◌, ◌⊎◌, IfErr, IfOk, None, Some};
+ghost use Rattle.lot_files.specs.Path.{library_path};
 ghost use Rattle.lot_host.specs.Answers.{stopped};
-ghost use Rattle.lot_host.specs.Done.{ComesTo, ComesToOfNothing, ComesToOfPath, IsDone};
+ghost use Rattle.lot_host.specs.Done.{ComesTo, ComesToOfNothing, ComesToOfPath, HasNoOld, IsDone};
+ghost use Rattle.lot_host.specs.Done.{IsOldOf, IsReadOf};
 
 use crate::access::{access_of, makes_file, old_of, path_of};
 use crate::host::{Host, Task};
-use lot_files::{Cause, Opened};
-use lot_stream::{REFUSED, STOPPED};
+use lot_files::{Access, Cause, Opened};
+use lot_stream::REFUSED;
 
 /// Does an action on the book that it names, and returns the status of the program.
 ///
@@ -20,15 +22,15 @@ pub fn act<H: Host>(host: &H, task: &Task) -> u8
     let Some(path) = path_of(&task.action) else {
         return match on_nothing(host, task, None) {
             Ok(status) => status,
-            Err(cause) => refused(host, task, "", cause),
+            Err(cause) => host.say_unopened(task, "", cause),
         };
     };
     let path = match host.library_path(path) {
         Ok(path) => path,
-        Err(cause) => return refused(host, task, path, cause),
+        Err(cause) => return host.say_unopened(task, path, cause),
     };
     let old = match old_of(&task.action) {
-        Some(old) => match host.take_up(task, old) {
+        Some(old) => match old_in(host, task, old) {
             Ok(old) => Some(old),
             Err(status) => return status,
         },
@@ -36,21 +38,42 @@ pub fn act<H: Host>(host: &H, task: &Task) -> u8
     };
     match on_path(host, task, path.as_str(), old) {
         Ok(status) => status,
-        Err(cause) => refused(host, task, path.as_str(), cause),
+        Err(cause) => host.say_unopened(task, path.as_str(), cause),
     }
 }
 
-/// Says why a database can't be opened, and returns the status.
-fn refused<H: Host>(host: &H, task: &Task, path: &str, cause: Cause) -> u8
-    ensures { result ≡ stopped }
+/// Takes up the book of that path, to be read. The error is the status of the program.
+fn old_in<H: Host>(host: &H, task: &Task, path: &str) -> Result<H::Old, u8>
+    ensures old { IfOk result (IsOldOf H.Host path.now) }
+    ensures fault { IfErr result (HasNoOld H.Host path.now) }
 {
-    host.say_unopened(task, path, cause);
-    STOPPED
+    match open_to_read(host, path) {
+        Ok(database) => host.take_up(task, path, database),
+        Err(cause) => Err(host.say_unopened(task, path, cause)),
+    }
+}
+
+/// Opens the database in the file of that path to be read, or an empty one where there is no such file.
+fn open_to_read<H: Host>(host: &H, path: &str) -> Result<H::Database, Cause>
+    ensures read { IfOk result (IsReadOf H.Host (library_path path.now)) }
+    ensures ready { IfOk result H.is_ready }
+    ensures fault { IfErr result (λ cause.
+        H.refuses (Some (library_path path.now)) cause ⊎ H.refuses None cause) }
+{
+    let path = host.library_path(path)?;
+    let path = path.as_str();
+    host.ensure_openable(path)?;
+    if host.is_missing(path) {
+        return host.open_nothing();
+    }
+    match host.open(path, Access::Read)? {
+        Opened::File(database) | Opened::Copy(database) => Ok(database),
+    }
 }
 
 /// Does the action of a task on an empty database, of which nothing stays.
 fn on_nothing<H: Host>(host: &H, task: &Task, old: Option<H::Old>) -> Result<u8, Cause>
-    ensures served { IfOk result (ComesToOfNothing H.Host task.now.action old) }
+    ensures served { IfOk result (ComesToOfNothing H.Host task.now.action task.now.effect old) }
     ensures fault { IfErr result (H.refuses None) }
 {
     let empty = host.open_nothing()?;
@@ -78,7 +101,7 @@ fn on_path<H: Host>(host: &H, task: &Task, path: &str, old: Option<H::Old>) -> R
 /// beside the file, also where it can't be closed.
 fn on_file<H: Host>(host: &H, task: &Task, file: H::Database, old: Option<H::Old>) -> u8
     requires { H.is_ready file }
-    ensures { ComesTo H.Host task.now.action old file result }
+    ensures { ComesTo H.Host task.now.action task.now.effect old file result }
 {
     let (status, left) = done_on(host, task, file, old);
     if status <= REFUSED {
@@ -90,7 +113,7 @@ fn on_file<H: Host>(host: &H, task: &Task, file: H::Database, old: Option<H::Old
 /// Does the action of a task on a database of which nothing stays.
 fn on_copy<H: Host>(host: &H, task: &Task, copy: H::Database, old: Option<H::Old>) -> u8
     requires { H.is_ready copy }
-    ensures { ComesTo H.Host task.now.action old copy result }
+    ensures { ComesTo H.Host task.now.action task.now.effect old copy result }
 {
     let (status, _left) = done_on(host, task, copy, old);
     status
@@ -105,7 +128,7 @@ fn done_on<H: Host>(
     old: Option<H::Old>,
 ) -> (u8, H::Database)
     requires { H.is_ready database }
-    ensures { ComesTo H.Host task.now.action old database result.0 }
+    ensures { ComesTo H.Host task.now.action task.now.effect old database result.0 }
 {
     let (status, left) = host.serve(task, database);
     match old {

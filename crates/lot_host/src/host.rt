@@ -1,11 +1,12 @@
 //! The host of a call: the files and the streams of a system, as far as a call needs them.
 
-ghost use Rattle.std.specs.Prelude.{◌≡◌, ◌≤◌, ℕ, List, Option, None, Some, IfErr, IfOk, IsOk, IsTrue, option_copied};
+ghost use Rattle.std.specs.Prelude.{◌≡◌, ◌≤◌, ℕ, Bool, List, Option, None, Some, IfErr, IfOk, IsOk, option_copied};
 ghost use Rattle.std.specs.String.{string_bytes};
 ghost use Rattle.lot_args.specs.declared.action.Action.{Action as ActionOf};
+ghost use Rattle.lot_args.specs.declared.request.Effect.{Effect as EffectOf};
 ghost use Rattle.lot_files.specs.declared.cause.Cause.{Cause as CauseOf};
 ghost use Rattle.lot_files.specs.Path.{library_path};
-ghost use Rattle.lot_host.specs.Answers.{IsStatusOf};
+ghost use Rattle.lot_host.specs.Answers.{IsStatusOf, stopped};
 ghost use Rattle.lot_files.specs.Opened.{IsOpenedFor, IsSo};
 ghost use Rattle.lot_profile.specs.declared.profile.Profile.{Profile as ProfileOf};
 ghost use Rattle.lot_rounding.specs.declared.rounding.Rounding.{Rounding as RoundingOf};
@@ -48,20 +49,24 @@ pub trait Host {
     // The file of that path, if there is one, may be opened as that of a book.
     ghost is_openable: { List ℕ → Type 0 };
 
-    // There is no file of that path.
-    ghost lacks: { List ℕ → Type 0 };
+    // Whether there is no file of that path, in a folder that is there.
+    ghost shows_missing: { List ℕ → Bool → Type 0 };
 
     // The database of that path, or the empty one, can't be opened for that cause.
     ghost refuses: { Option (List ℕ) → CauseOf → Type 0 };
 
-    // The action is done on the first database. The number is its status, and the second database what is left.
-    ghost serves: { ActionOf → Self.Database → ℕ → Self.Database → Type 0 };
+    // That cause is told of a database that can't be opened. The number is the status.
+    ghost tells_unopened: { CauseOf → ℕ → Type 0 };
 
-    // It is the book in the file of that path.
-    ghost is_old: { List ℕ → Self.Old → Type 0 };
+    // The action is done on the first database, and behind it that is told of the second one, which is what is left, that the effect
+    // asks for. The number is the status.
+    ghost serves: { ActionOf → EffectOf → Self.Database → ℕ → Self.Database → Type 0 };
 
-    // The book in the file of that path can't be taken up. The number is the status of that fault.
-    ghost refuses_old: { List ℕ → ℕ → Type 0 };
+    // It is the book in a database.
+    ghost is_old: { Self.Database → Self.Old → Type 0 };
+
+    // The book in a database can't be taken up, which is told. The number is the status.
+    ghost refuses_old: { Self.Database → ℕ → Type 0 };
 
     // The book in a database, which was made with the first status, is compared with an old one. The second number is the status then.
     ghost compares: { ℕ → Self.Database → Self.Old → ℕ → Type 0 };
@@ -90,7 +95,7 @@ pub trait Host {
 
     /// Returns whether there is no file of that path in a folder that is there.
     fn is_missing(&self, path: &str) -> bool
-        ensures { IsTrue result → lacks path.now };
+        ensures { shows_missing path.now result };
 
     /// Opens the database in the file of that path.
     fn open(&self, path: &str, access: Access) -> Result<Opened<Self::Database>, Cause>
@@ -105,18 +110,19 @@ pub trait Host {
         ensures ready { IfOk result is_ready }
         ensures fault { IfErr result (refuses None) };
 
-    /// Does the action of a task on a database, and returns its status and the database.
+    /// Does the action of a task on a database, and tells behind it what its effect asks for. Returns the status and the database.
     fn serve(&self, task: &Task, database: Self::Database) -> (u8, Self::Database)
         requires { is_ready database }
-        ensures { serves task.now.action database result.0 result.1 };
+        ensures { serves task.now.action task.now.effect database result.0 result.1 };
 
     /// Closes the database of a file. What was committed is there in either case.
     fn close(&self, database: Self::Database);
 
-    /// Takes up the book of that path, to be read. The error is the status of the program: why it can't is said.
-    fn take_up(&self, task: &Task, path: &str) -> Result<Self::Old, u8>
-        ensures old { IfOk result (is_old path.now) }
-        ensures fault { IfErr result (refuses_old path.now) };
+    /// Takes up the book in a database, that of the path, to be read. The error is the status of the program: why it can't is said.
+    fn take_up(&self, task: &Task, path: &str, database: Self::Database) -> Result<Self::Old, u8>
+        requires { is_ready database }
+        ensures old { IfOk result (is_old database) }
+        ensures fault { IfErr result (refuses_old database) };
 
     /// Says how the book in a database, which was made with that status, differs from an old one. Returns the status then, and the
     /// database.
@@ -130,8 +136,10 @@ pub trait Host {
         requires { status ≤ 1 }
         ensures { compares status database old result.0 };
 
-    /// Says why the database of that path can't be opened.
-    fn say_unopened(&self, task: &Task, path: &str, cause: Cause);
+    /// Says why the database of that path can't be opened, and returns the status.
+    fn say_unopened(&self, task: &Task, path: &str, cause: Cause) -> u8
+        ensures told { tells_unopened cause result }
+        ensures stops { result ≡ stopped };
 
     /// Reads the profile in the file of that path. The error is the status of the program: why there is none is said.
     fn load(&self, path: &str) -> Result<(Profile, Option<Rounding>), u8>

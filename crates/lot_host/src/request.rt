@@ -1,6 +1,6 @@
 //! What the arguments of the program ask for is done.
 
-ghost use Rattle.std.specs.Prelude.{◌≡◌, ◌⊎◌, map};
+ghost use Rattle.std.specs.Prelude.{◌≡◌, ◌⊎◌, IfErr, IfOk, map};
 ghost use Rattle.std.specs.String.{string_bytes};
 ghost use Rattle.lot_host.specs.Run.{IsImported, IsMet, IsRun, IsShownBy};
 
@@ -9,9 +9,20 @@ use crate::host::{Host, Task};
 use lot_args::{Action, AskedImport, Effect, Notes, Request, parse_words};
 use std::alloc::Global;
 
-/// Does what arguments ask for, of which the first is the program's name, and returns the status of the program. Where they can't
-/// be used, or ask for help, that is said.
-pub fn run<H: Host>(host: &H, alloc: Global, words: &[String]) -> u8
+/// Does what arguments ask for, of which the first is the program's name, and returns the status of the program: the one at hand
+/// where they couldn't be read.
+pub fn run<H: Host>(host: &H, alloc: Global, words: Result<Vec<String>, u8>) -> u8
+    ensures run { IfOk words (λ words. IsRun H.Host (map string_bytes words.items) result) }
+    ensures unread { IfErr words (λ status. result ≡ status) }
+{
+    match words {
+        Ok(words) => run_words(host, alloc, &words),
+        Err(status) => status,
+    }
+}
+
+/// Does what words ask for. Where they can't be used, or ask for help, that is said.
+fn run_words<H: Host>(host: &H, alloc: Global, words: &[String]) -> u8
     ensures { IsRun H.Host (map string_bytes words.now) result }
 {
     match parse_words(alloc, words) {

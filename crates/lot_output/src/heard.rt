@@ -1,6 +1,6 @@
 //! What was heard of a call, and a writer that hears it.
 
-ghost use Rattle.std.specs.Prelude.{◌≡◌, ◌≢◌, ◌<◌, IfErr, IfOk, IsOk, IsSome, None, OnErr, Some, false, length, take, true};
+ghost use Rattle.std.specs.Prelude.{◌≡◌, ◌≢◌, ◌<◌, IfErr, IfOk, IsOk, IsSome, None, OnErr, OnOk, Some, false, length, take, true};
 ghost use Rattle.std.specs.Io.{WritesAtMost};
 ghost use Rattle.std.specs.IoError.{error_kind};
 ghost use Rattle.std.specs.Io.KnownBytes.{Keeps, WriteAppends};
@@ -8,6 +8,7 @@ ghost use Rattle.lot_output.specs.Heard.{Hears, ends_line, told_by};
 
 use crate::course::{Course, Said, said_in};
 use crate::record::Record;
+use crate::write_out::WriteOut;
 use std::alloc::Global;
 use std::io::{self, ErrorKind, Write};
 
@@ -82,7 +83,7 @@ impl<W> Witness<W> {
 
 /// Each line of a reply or of a fault is handed to the writer whole. It is heard once, whether it can
 /// be written or not: what it says is so. What the writer took of it is told, and nothing else is written.
-impl<W: Write> Write for Witness<W> {
+impl<W: WriteOut> Write for Witness<W> {
     ghost contents = { λ witness. W.contents witness.writer };
 
     fn write(&mut self, buf: &[u8]) -> io::Result<usize>
@@ -116,13 +117,14 @@ impl<W: Write> Write for Witness<W> {
 
     fn flush(&mut self) -> io::Result<()>
         ensures bytes { Keeps (W.contents self.old.writer) (W.contents self.new.writer) }
+        ensures written_out { OnOk result (W.is_written_out self.new.writer) }
         ensures failure { IfErr result (λ error. self.new.heard.failure ≡ Some error) }
         ensures flushed { IsOk result → self.new.heard.failure ≡ self.old.heard.failure }
         ensures course { self.new.heard.course ≡ self.old.heard.course }
         ensures lines { self.new.heard.lines ≡ self.old.heard.lines }
         ensures begins { self.new.begins ≡ self.old.begins }
     {
-        let outcome = self.writer.flush();
+        let outcome = self.writer.write_out();
         self.heard.failure = outcome.err().or(self.heard.failure);
         outcome
     }

@@ -1,9 +1,11 @@
 //! Standard output.
 
-ghost use Rattle.std.specs.Prelude.{◌≡◌};
-ghost use Rattle.std.specs.Io.Buffered.{writer_contents, writer_inner};
+ghost use Rattle.std.specs.Prelude.{◌≡◌, [], OnOk};
+ghost use Rattle.std.specs.Io.Buffered.{writer_buffer, writer_contents, writer_inner};
+ghost use Rattle.std.specs.Io.KnownBytes.{Keeps};
 
 use crate::meter::Meter;
+use crate::write_out::WriteOut;
 use std::alloc::Global;
 use std::io::{self, BufWriter, Write};
 
@@ -74,8 +76,20 @@ impl<W: Write + Drop> Write for Output<'_, W> {
     }
 
     /// Writes out what is in the buffer, and counts a reply.
-    fn flush(&mut self) -> io::Result<()> {
+    fn flush(&mut self) -> io::Result<()>
+        ensures bytes { Keeps (writer_contents W.contents self.old.buffer)
+            (writer_contents W.contents self.new.buffer) }
+        ensures buffer { OnOk result (writer_buffer self.new.buffer ≡ []) }
+    {
         self.replies.add(1);
         self.buffer.flush()
+    }
+}
+
+impl<W: Write + Drop> WriteOut for Output<'_, W> {
+    ghost is_written_out = { λ output. writer_buffer output.buffer ≡ [] };
+
+    fn write_out(&mut self) -> io::Result<()> {
+        self.flush()
     }
 }

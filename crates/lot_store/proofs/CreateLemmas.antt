@@ -1,7 +1,8 @@
 -- The tables of a book without entries.
-use Rattle.std.proofs.Common.{◌≡◌, true, All, Err, IsTrue, [], ◌∷◌, Ok, OnOk, Result, arith, refl, subst}
+use Rattle.std.proofs.Common.{◌≡◌, true, All, Err, IfErr, IsTrue, [], ◌∷◌, Ok, OnOk, Result, arith, refl, rules, subst}
+use Rattle.sqlite.proofs.StateLemmas.{survives_weaker}
 use Rattle.sqlite.specs.Held.{Held, state}
-use Rattle.sqlite.specs.State.{IsLive, KeepsCommit, State}
+use Rattle.sqlite.specs.State.{IsLive, KeepsCommit, State, Survives}
 use Rattle.sqlite.specs.Store.{Ghosts}
 use Rattle.sqlite.specs.Tree.{Trees}
 use Rattle.sqlite.specs.declared.error.Error.{Error}
@@ -14,7 +15,7 @@ use Rattle.lot_rows.specs.declared.book.BookRow.{BookRow}
 use Rattle.lot_table.specs.Book.{Holds, Turns, always}
 use Rattle.lot_table.specs.Rows.{put_in}
 use Rattle.lot_table.specs.Shape.{schema_of}
-use Rattle.lot_store.specs.Create.{StandsForNone, create_outcome, no_entries_yet}
+use Rattle.lot_store.specs.Create.{MayBeMade, StandsForNone, create_commit_fault, create_outcome, no_entries_yet}
 
 none : {X : Type 0} (P : X → Type 0) → All P []
 none P k d low = absurd (omega (arith, low))
@@ -101,6 +102,21 @@ made_in g old begun last is live kept made opened empty =
     let was_open : IsTrue (state g old).is_open = subst (λ (h : Held _). IsTrue (state g h).is_open) is (kept.was_open opened) in
     let sound : IsSound (schema_of []) (state g old).now.trees = subst (λ s. IsSound s (state g old).now.trees) empty (live was_open).0 in
     subst (λ (h : Held _). (state g h).now.schema ≡ schema_of [] → IsSound (schema_of []) (state g h).now.trees → StandsForNone (state g last)) is made empty sound
+
+-- of each error, where there is one
+pub of_each_error : {A E : Type 0} (r : Result A E) (P : E → Type 0) → ((error : E) → P error) → IfErr r P
+of_each_error (Ok done) P each = tt
+of_each_error (Err error) P each = each error
+
+-- a commit that fails is in doubt, or memory refused it
+doubtful : (error : Error) → MayBeMade (create_commit_fault error)
+doubtful error = search rules
+
+-- so what a crash may leave once a commit failed is left where a book may stand
+pub on_failed : {A : Type 0} (r : Result A Error) (old new : State) (P : Trees → Type 0) → Survives old new P
+    → IfErr (create_outcome r) (λ fault. Survives old new (λ trees. MayBeMade fault × P trees))
+on_failed (Ok done) old new P survives = tt
+on_failed (Err error) old new P survives = survives_weaker old new P _ (λ _ trees may. (doubtful error, may)) survives
 
 pub on_created : {A : Type 0} (r : Result A Error) (P : Type 0) → OnOk r P → OnOk (create_outcome r) P
 on_created (Ok done) P h = h

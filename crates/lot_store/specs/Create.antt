@@ -62,6 +62,17 @@ RefusedFor old new create.Memory = Unit {0}
 abbrev pub LeavesNew : State → Trees → Type 0
 LeavesNew old trees = (old.now.schema ≡ schema_of []) × Left trees []
 
+-- the faults after which a book may stand all the same: nobody knows, or memory refused the commit
+abbrev pub MayBeMade : CreateFault → Type 0
+MayBeMade create.InDoubt = Unit {0}
+MayBeMade create.Memory = Unit {0}
+MayBeMade create.NotABook = ⊥
+MayBeMade create.Device = ⊥
+
+-- what a crash may leave anew once a call has failed
+abbrev pub LeavesAfter : CreateFault → State → Trees → Type 0
+LeavesAfter fault old trees = MayBeMade fault × LeavesNew old trees
+
 -- the tables of a book without entries, whose place of migration is 0
 abbrev pub no_entries_yet : Tables
 no_entries_yet = record no_rows_yet { book = this_edition ∷ []; migration = migration_row 0 ∷ [] }

@@ -1,7 +1,7 @@
 ghost use Rattle.std.specs.Prelude.{◌≡◌, ◌≢◌, ◌↔◌, [], false, Err, IfErr, IfOk, IsTrue, None, OnErr, OnOk};
 ghost use Rattle.lot_stored.specs.Rows.{this_edition};
 ghost use Rattle.lot_stored.specs.StandFor.{Left, Stands};
-ghost use Rattle.lot_store.specs.Create.{IsHandedBack, LeavesNew, RefusedFor, StandsForNone, create_outcome};
+ghost use Rattle.lot_store.specs.Create.{IsHandedBack, LeavesAfter, LeavesNew, MayBeMade, RefusedFor, StandsForNone, create_outcome};
 ghost use Rattle.lot_table.specs.Shape.{schema_of};
 ghost use Rattle.sqlite.specs.Held.{state};
 ghost use Rattle.sqlite.specs.State.{HasCleanDisk, IsLive, KeepsCommit, Survives};
@@ -22,8 +22,8 @@ use std::alloc::{AllocError, Global};
 ///
 /// The error is `NotABook` where the database has a table already and, while it is open, nowhere else: a book stands in a file
 /// of its own. After `InDoubt` the tables were made or not. After any error the connection is outside a transaction, and every
-/// row is as it was. A crash during the call leaves what it could leave before, or in a database without tables those of the empty
-/// book.
+/// row is as it was. A crash during the call leaves what it could leave before; or, where the call succeeds or ends with `InDoubt`
+/// or `Memory`, in a database without tables those of the empty book.
 pub fn create<S: Alter>(
     alloc: Global,
     conn: Connection<S>,
@@ -47,8 +47,8 @@ pub fn create<S: Alter>(
         → KeepsCommit (state S.Store conn) (state S.Store left.conn)) }
     ensures crash_ok { IfOk result (λ book.
         Survives (state S.Store conn) (state S.Store book.conn) (LeavesNew (state S.Store conn))) }
-    ensures crash_err { IfErr result (λ left.
-        Survives (state S.Store conn) (state S.Store left.conn) (LeavesNew (state S.Store conn))) }
+    ensures crash_err { IfErr result (λ left. Survives (state S.Store conn)
+        (state S.Store left.conn) (LeavesAfter left.fault (state S.Store conn))) }
 {
     let mut conn = conn;
     // Outside a transaction the tables are those of the last commit, before the call and after it.
@@ -92,6 +92,9 @@ fn make<S: Alter>(alloc: Global, conn: &mut Connection<S>) -> Result<(), CreateF
         → OnErr result (KeepsCommit (state S.Store conn.old) (state S.Store conn.new)) }
     ensures crash { Survives (state S.Store conn.old) (state S.Store conn.new)
         (λ trees. (state S.Store conn.old).now.schema ≡ schema_of [] → Left trees []) }
+    ensures crash_err { IfErr result (λ fault. Survives (state S.Store conn.old)
+        (state S.Store conn.new) (λ trees. MayBeMade fault
+        × ((state S.Store conn.old).now.schema ≡ schema_of [] → Left trees []))) }
 {
     let row = edition_row(alloc)?;
     // While the connection is open, its database is sound.

@@ -1,6 +1,7 @@
 -- With which status a comparison ends, and a call whose book isn't taken up.
-use Rattle.std.specs.Prelude.{◌≡◌, ℕ, List, Bool, true, false, Option, Result, Ok, Err}
-use Rattle.std.proofs.Common.{inl, inr, ◌∙◌}
+use Rattle.std.specs.Prelude.{◌≡◌, ℕ, List, Bool, true, false, not, Option, Result, Ok, Err}
+use Rattle.std.proofs.Common.{inl, inr, refl, sym, ◌∙◌}
+use Rattle.std.proofs.lemmas.Bool.{true≢false}
 use Rattle.lot_cli.specs.Differ.{EndsCompared, EndsWithFault}
 use Rattle.lot_cli.specs.Says.{Says}
 use Rattle.lot_compare.specs.Fault.{is_of_writer}
@@ -10,7 +11,7 @@ use Rattle.lot_io.specs.Writes.{WritesMade}
 use Rattle.lot_stream.specs.Status.{code_of}
 use Rattle.lot_stream.specs.declared.status.Status.{Status}
 use Rattle.lot_stream.specs.declared.status.Status.TheVariants.{Stopped}
-use Rattle.lotbook.specs.Statuses.{IsCompared}
+use Rattle.lotbook.specs.Statuses.{IsStatusBeside}
 
 -- what says that it stopped ends so, whether it could be written or not
 pub says_stopped : (text : List ℕ) (before written : Option (List ℕ)) (calls : WritesMade) (end : ℕ)
@@ -25,8 +26,13 @@ ends_faulty false fault mid written calls end ends = says_stopped _ mid written 
 
 -- a comparison ends with the status before it, or is stopped
 pub ends_compared : (compared : Result (Unit {0}) CompareFault) (status : Status) (mid written : Option (List ℕ)) (calls : WritesMade)
-    (code end : ℕ) → code_of status ≡ code → EndsCompared compared status mid written calls end → IsCompared code end
+    (code end : ℕ) → code_of status ≡ code → EndsCompared compared status mid written calls end → IsStatusBeside code end
 ends_compared (Ok done) status mid written calls code end same (inl said) = inl (said.0 ∙ same)
 ends_compared (Ok done) status mid written calls code end same (inr cut) = inr cut.0
 ends_compared (Err fault) status mid written calls code end same ends =
     inr (ends_faulty (is_of_writer fault) fault mid written calls end ends)
+
+-- a connection that commits by itself is in no transaction
+pub is_inside : (alone inside : Bool) → alone ≡ false → alone ≡ not inside → inside ≡ true
+is_inside alone true is value = refl
+is_inside alone false is value = absurd (true≢false (sym value ∙ is))

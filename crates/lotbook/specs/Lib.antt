@@ -1,2 +1,4 @@
 pub mod Answered
+pub mod Compared
+pub mod Shown
 pub mod Statuses

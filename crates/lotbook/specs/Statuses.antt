@@ -14,5 +14,5 @@ abbrev pub IsRefusal : ℕ → Type 0
 IsRefusal status = (status ≡ unusable) ⊎ (status ≡ stopped)
 
 -- the status of a comparison: that of the action before it, unless a fault stops it
-abbrev pub IsCompared : ℕ → ℕ → Type 0
-IsCompared served status = (status ≡ served) ⊎ (status ≡ stopped)
+abbrev pub IsStatusBeside : ℕ → ℕ → Type 0
+IsStatusBeside served status = (status ≡ served) ⊎ (status ≡ stopped)

@@ -3,35 +3,37 @@
 ghost use Rattle.std.specs.Prelude.{◌≡◌, None, false};
 ghost use Rattle.sqlite.specs.Held.{state};
 ghost use Rattle.lot_io.specs.Reader.{reader_of};
+ghost use Rattle.lot_args.specs.Preview.{preview_of};
 ghost use Rattle.lot_call.specs.Looks.{IsLookedAt};
 ghost use Rattle.lotbook.specs.Answered.{IsAnswered, IsServed};
 
 use crate::keeper::{Keep, Keeper};
 use lot_book::Verdict;
 use lot_call::{
-    Call, Crumbs, Fate, FileKind, Watched, explain, say_aside, say_export_fault, say_fate,
-    say_taken, say_unwritten, sum_up,
+    Appraiser, Call, Crumbs, Fate, FileKind, Watched, explain, say_aside, say_export_fault,
+    say_fate, say_statement_fault, say_taken, say_unwritten, sum_up,
 };
 use lot_cli::{
     Action, AdoptFault, Aside, CommandFault, CountedWriter, CreateFault, DumpFault, Export,
     ExportFault, Halt, InputFault, Look, MigrateFault, Progress, RestoreFault, Served, VerifyFault,
-    serve,
+    serve_with_preview,
 };
 use lot_command::Key;
 use lot_completion::{Note, Watch};
-use lot_output::{Heard, Meter, Output, Pace, Record, Witness};
+use lot_output::{Heard, Meter, Output, Pace, Record, Witness, WriteOut};
 use lot_rounding::Asked;
 use lot_table::Queryable;
 use lot_verify::say_where;
 use sqlite::{Alter, Connection};
-use std::io::{Read, Stdout, Write};
+use std::io::{Read, Stdout};
 
 /// Does what a call is for on the book that the connection leads to, with standard input, and says on
 /// standard error what there is to say of it. The book is only looked at then.
 pub fn answer<S: Alter>(call: &Call<'_>, conn: Connection<S>) -> Served<S>
     requires outside { conn.in_transaction ≡ false }
     requires unlimited { conn.step_limit ≡ None }
-    ensures { IsAnswered (state S.Store) call.now.action.now conn result.conn result.status }
+    ensures { IsAnswered (state S.Store) call.now.action.now (preview_of call.now.effect)
+        conn result.conn result.status }
 {
     let alloc = call.rt.alloc();
     let keep = if call.is_quiet() {
@@ -40,11 +42,13 @@ pub fn answer<S: Alter>(call: &Call<'_>, conn: Connection<S>) -> Served<S>
         Keep::TakenBack
     };
     let mut reader = Keeper::new(alloc, call.rt.reader(), keep);
-    let mut writer = Witness::new(alloc, output_of(call), call.most());
+    let appraiser = Appraiser::new(call, output_of(call));
+    let mut writer = Witness::new(alloc, appraiser, call.most());
     let mut watched = Watched::of(call);
     let mut served = do_quietly(call, &mut reader, &mut writer, &mut watched, conn);
     reader.free_room();
-    let (output, heard) = writer.into_parts();
+    let (appraiser, heard) = writer.into_parts();
+    let output = appraiser.say_unpriced(call, &heard);
     output.end();
     speak(
         call,
@@ -68,7 +72,7 @@ fn output_of<'a>(call: &Call<'a>) -> Output<'a, Stdout> {
 }
 
 /// Does what a call is for, and says nothing of it.
-fn do_quietly<R: Read, W: Write, S: Alter>(
+fn do_quietly<R: Read, W: WriteOut, S: Alter>(
     call: &Call<'_>,
     reader: &mut Keeper<R>,
     writer: &mut Witness<W>,
@@ -79,7 +83,8 @@ fn do_quietly<R: Read, W: Write, S: Alter>(
     requires unlimited { conn.step_limit ≡ None }
     ensures { IsServed (state S.Store) (R.remaining (reader_of reader.old.reader))
         (R.remaining (reader_of reader.new.reader))
-        call.now.action.now conn result.conn result.status result.halt }
+        call.now.action.now (preview_of call.now.effect) conn
+        result.conn result.status result.halt }
 {
     let mut output = CountedWriter::new(writer);
     let mut watcher = Watcher {
@@ -87,9 +92,10 @@ fn do_quietly<R: Read, W: Write, S: Alter>(
         legs: Meter::of_legs(call.rt),
         watched,
     };
-    serve(
+    serve_with_preview(
         call.rt.alloc(),
         call.action,
+        call.effect.preview(),
         reader,
         &mut output,
         &mut watcher,
@@ -138,6 +144,11 @@ fn conclude<S: Alter>(
 {
     match (halt, fate) {
         (Some(Halt::Input(InputFault::Export(fault))), _) => say_faulty_export(call, read, fault),
+        (Some(Halt::Input(InputFault::Statement(fault))), _) => {
+            if let Some(bytes) = &read.bytes {
+                say_statement_fault(call.rt, fault, bytes.as_slice());
+            }
+        }
         (Some(halt), _) => advise(call, call.path, halt, conn),
         (None, Fate::Dropped | Fate::InDoubt) => {
             sum_up(call, &heard.course);

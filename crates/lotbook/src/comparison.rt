@@ -1,78 +1,65 @@
 //! The old book beside which a new one is made of a dump, and how they differ.
 
-ghost use Rattle.std.specs.Prelude.{◌≡◌, ◌≤◌, IfErr};
+ghost use Rattle.std.specs.Prelude.{◌≡◌, ◌≤◌, IfErr, IfOk, None, false};
+ghost use Rattle.sqlite.specs.Files.{over_files};
 ghost use Rattle.lot_host.specs.Answers.{stopped};
 ghost use Rattle.lot_stream.specs.Status.{code_of};
-ghost use Rattle.lotbook.specs.Statuses.{IsCompared};
+ghost use Rattle.lotbook.specs.Compared.{IsCompared, IsNoneTold, IsRefused, IsReported};
+ghost use Rattle.lotbook.specs.Compared.{IsTakenUp, IsToldBeside, ShowsNone, TellsBeside};
+ghost use Rattle.lotbook.specs.Compared.{unlimited};
+ghost use Rattle.lotbook.specs.Statuses.{IsStatusBeside};
 
 use crate::answer::advise;
 use crate::system::buffered;
-use lot_call::{Call, Fate, say_unwritten, say_why};
+use lot_call::{Call, Fate, say_unwritten};
 use lot_cli::{AdoptFault, CountedWriter, Halt, Status, say_halt, tell_differences};
-use lot_files::{
-    Access, Cause, Database, Failure, Opened, ensure_openable, is_missing, library_path, open_book,
-    open_nothing,
-};
+use lot_files::{Database, is_missing};
 use lot_host::old_of;
+use lot_io::CountedWrite;
 use lot_output::Witness;
 use lot_store::{Book, HandedBack, adopt};
-use lot_stream::{DONE, STOPPED};
+use lot_stream::DONE;
 use sqlite::{Alter, Connection};
 
-/// Takes up the book of that path, to be read. Where that can't be done a line on standard output says so, and one on
-/// standard error why; the error is the status of the program.
-pub fn take_up<'a>(call: &Call<'_>, failure: &'a Failure, path: &str) -> Result<Database<'a>, u8>
-    ensures { IfErr result (λ status. status ≡ stopped) }
-{
-    match opened(call, failure, path) {
-        Ok(Opened::File(old) | Opened::Copy(old)) => match book_in(call, old.conn) {
-            Ok(book) => Ok(Database {
-                conn: book.into_connection(),
-            }),
-            Err(HandedBack { fault, mut conn }) => Err(refuse(call, path, fault, &mut conn)),
-        },
-        Err(cause) => {
-            let _ = println!(call.rt; "fault open");
-            say_why(call, path, cause);
-            Err(STOPPED)
-        }
-    }
-}
-
-/// Opens the book of that path to be read: nothing where there is no such file.
-fn opened<'a>(
+/// Takes up the book in a database, that of the path, to be read. Where that can't be done a line on standard output says so, and
+/// one on standard error why; the error is the status of the program.
+pub fn take_up<S: Alter + Drop>(
     call: &Call<'_>,
-    failure: &'a Failure,
     path: &str,
-) -> Result<Opened<Database<'a>>, Cause> {
-    let rt = call.rt;
-    let path = library_path(rt.alloc(), path)?;
-    let path = path.as_str();
-    ensure_openable(rt, path)?;
-    if is_missing(rt, path) {
-        return Ok(Opened::Copy(open_nothing(rt.alloc())?));
+    conn: Connection<S>,
+) -> Result<Connection<S>, u8>
+    ensures taken { IfOk result (IsTakenUp S.Store (unlimited conn)) }
+    ensures refused { IfErr result (IsRefused S.Store conn) }
+{
+    match book_in(call, conn) {
+        Ok(book) => Ok(book.into_connection()),
+        Err(HandedBack { fault, mut conn }) => Err(refuse(call, path, fault, &mut conn)),
     }
-    open_book(rt, path, Access::Read, failure)
 }
 
 /// Returns the book that a connection shows. One that is in a transaction shows none.
 fn book_in<S: Alter>(
     call: &Call<'_>,
-    mut conn: Connection<S>,
-) -> Result<Book<S>, HandedBack<S, AdoptFault>> {
-    conn.set_step_limit(None);
+    conn: Connection<S>,
+) -> Result<Book<S>, HandedBack<S, AdoptFault>>
+    ensures taken { IfOk result (λ book. IsTakenUp S.Store (unlimited conn) book.conn) }
+    ensures none { IfErr result (λ left. ShowsNone S.Store conn left.conn left.fault) }
+{
+    let mut conn = conn;
     if !conn.is_autocommit() {
         return Err(HandedBack {
             fault: AdoptFault::NotABook,
             conn,
         });
     }
+    conn.set_step_limit(None);
     adopt(call.rt.alloc(), conn)
 }
 
 /// Reports why the book of that path isn't taken up, and returns the status.
 fn refuse<S: Alter>(call: &Call<'_>, path: &str, fault: AdoptFault, conn: &mut Connection<S>) -> u8
-    ensures { result ≡ stopped }
+    ensures reported { IsReported fault result }
+    ensures stops { result ≡ stopped }
 {
     let status = say_refusal(call.rt, fault);
     if call.is_quiet() {
@@ -88,12 +75,21 @@ fn refuse<S: Alter>(call: &Call<'_>, path: &str, fault: AdoptFault, conn: &mut C
 
 /// Reports on standard output why a book isn't taken up, and returns the status.
 fn say_refusal(rt: &HostRuntime, fault: AdoptFault) -> u8
-    ensures { result ≡ stopped }
+    ensures reported { IsReported fault result }
+    ensures stops { result ≡ stopped }
 {
     let mut output = buffered(rt);
-    let status = say_halt(&mut CountedWriter::new(&mut output), Halt::Adopt(fault));
+    let status = write_refusal(&mut CountedWriter::new(&mut output), fault);
     output.end();
     status
+}
+
+/// Writes why a book isn't taken up, and returns the status.
+fn write_refusal<W: CountedWrite>(writer: &mut W, fault: AdoptFault) -> u8
+    ensures reported { IsReported fault result }
+    ensures stops { result ≡ stopped }
+{
+    say_halt(writer, Halt::Adopt(fault))
 }
 
 /// Writes how the book that was made of a dump differs from an old one, and nothing where none was made. Returns the
@@ -105,20 +101,33 @@ pub fn show_differences<S: Alter>(
     old: Database<'_>,
 ) -> (u8, Connection<S>)
     requires { status ≤ 1 }
-    ensures { IsCompared status result.0 }
+    ensures told { IsCompared S.Store over_files conn old.entry.conn status result.0 }
+    ensures ends { IsStatusBeside status result.0 }
 {
     match book_in(call, conn) {
         Ok(mut new) => {
             let status = show_beside(call, status, &mut new, old);
             (status, new.into_connection())
         }
-        Err(
-            HandedBack {
-                fault: AdoptFault::NotABook,
-                conn,
-            },
-        ) => (status, conn),
-        Err(HandedBack { fault, mut conn }) => {
+        Err(left) => show_none(call, status, left),
+    }
+}
+
+/// Reports why there is no new book, unless none was made. Returns the status, and the connection.
+fn show_none<S: Alter>(
+    call: &Call<'_>,
+    status: u8,
+    left: HandedBack<S, AdoptFault>,
+) -> (u8, Connection<S>)
+    requires { status ≤ 1 }
+    ensures told { IsNoneTold left.fault status result.0 }
+    ensures ends { IsStatusBeside status result.0 }
+{
+    let HandedBack { fault, conn } = left;
+    match fault {
+        AdoptFault::NotABook => (status, conn),
+        _ => {
+            let mut conn = conn;
             let status = refuse(call, call.path, fault, &mut conn);
             (status, conn)
         }
@@ -128,7 +137,8 @@ pub fn show_differences<S: Alter>(
 /// Writes how a new book differs from an old one, and returns the status.
 fn show_beside<S: Alter>(call: &Call<'_>, status: u8, new: &mut Book<S>, old: Database<'_>) -> u8
     requires { status ≤ 1 }
-    ensures { IsCompared status result }
+    ensures told { IsToldBeside S.Store over_files new.old old.entry.conn status result }
+    ensures ends { IsStatusBeside status result }
 {
     let path = old_of(call.action).unwrap_or("");
     match book_in(call, old.conn) {
@@ -149,7 +159,8 @@ fn write_differences<S: Alter, T: Alter>(
     old: &mut Book<T>,
 ) -> u8
     requires { status ≤ 1 }
-    ensures { IsCompared status result }
+    ensures told { TellsBeside S.Store T.Store new.old old.old status result }
+    ensures ends { IsStatusBeside status result }
 {
     let alloc = call.rt.alloc();
     let mut writer = Witness::new(alloc, buffered(call.rt), call.most());

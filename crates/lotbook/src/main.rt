@@ -28,8 +28,5 @@ fn main(rt: HostRuntime) -> ExitCode {
     }
     let failure = Failure::none();
     let system = System::new(&rt, &failure);
-    ExitCode::from(match words(&rt) {
-        Ok(words) => run(&system, rt.alloc(), &words),
-        Err(status) => status,
-    })
+    ExitCode::from(run(&system, rt.alloc(), words(&rt)))
 }

@@ -1,17 +1,24 @@
 //! The system as the host of a call: its files, its streams and its clock.
 
-ghost use Rattle.std.specs.Prelude.{◌≡◌};
-ghost use Rattle.sqlite.specs.Files.{file_state};
+ghost use Rattle.std.specs.Prelude.{◌≡◌, false};
+ghost use Rattle.sqlite.specs.Files.{file_state, over_files};
+ghost use Rattle.lot_args.specs.Preview.{preview_of};
 ghost use Rattle.lotbook.specs.Answered.{IsAnswered};
-ghost use Rattle.lotbook.specs.Statuses.{IsCompared, IsRefusal, IsSaid};
+ghost use Rattle.lotbook.specs.Compared.{IsCompared, IsRefused, IsTakenUp, unlimited};
+ghost use Rattle.lotbook.specs.Shown.{IsExportShown};
+ghost use Rattle.lotbook.specs.Statuses.{IsRefusal, IsSaid};
 ghost use Rattle.lot_files.specs.Opened.{IsOverMemory, IsOverSystem, IsReady};
+ghost use Rattle.lot_files.specs.Path.{has_long_name};
 ghost use Rattle.lot_host.specs.Answers.{IsTold, stopped};
 
 use crate::answer::answer;
 use crate::comparison::{show_differences, take_up};
 use crate::showing::show_on;
 use lot_args::{Notes, Request, WordsFault};
-use lot_call::{Call, Loaded, load, out_of_memory, say_why, say_words_fault, tell, warn};
+use lot_call::{
+    Call, Loaded, PlainFault, load, out_of_memory, say_why, say_words_fault, tell, warn,
+    write_fault,
+};
 use lot_cli::Served;
 use lot_files::{
     Access, Cause, Database, Failure, Opened, ensure_openable, is_missing, library_path, open_book,
@@ -21,7 +28,7 @@ use lot_host::{Host, Task, path_of};
 use lot_output::{Meter, Output, Pace};
 use lot_profile::Profile;
 use lot_rounding::Rounding;
-use lot_stream::UNUSABLE;
+use lot_stream::{STOPPED, UNUSABLE};
 use std::io::Stdout;
 use std::time::Instant;
 
@@ -84,26 +91,30 @@ impl<'a> Host for System<'a> {
 
     ghost is_ready = { λ database. IsReady database.conn };
 
-    ghost is_openable = { λ _. Unit {0} };
+    ghost is_openable = { λ path. has_long_name path ≡ false };
 
-    ghost lacks = { λ _. Unit {0} };
+    ghost shows_missing = { λ _ _. Unit {0} };
 
     ghost refuses = { λ _ _. Unit {0} };
 
-    ghost serves = { λ action opened status left.
-        IsAnswered (λ conn. file_state conn) action opened.conn left.conn status };
+    ghost tells_unopened = { λ _ status. status ≡ stopped };
 
-    ghost is_old = { λ _ _. Unit {0} };
+    ghost serves = { λ action effect opened status left.
+        IsAnswered (λ conn. file_state conn) action (preview_of effect)
+        opened.conn left.conn status };
 
-    ghost refuses_old = { λ _ status. status ≡ stopped };
+    ghost is_old = { λ opened old. IsTakenUp over_files (unlimited opened.conn) old.conn };
 
-    ghost compares = { λ served _ _ status. IsCompared served status };
+    ghost refuses_old = { λ opened status. IsRefused over_files opened.conn status };
+
+    ghost compares = { λ served opened old status.
+        IsCompared over_files over_files opened.conn old.conn served status };
 
     ghost has_profile = { λ _ profile rounding. IsSaid profile rounding };
 
     ghost refuses_profile = { λ _ status. IsRefusal status };
 
-    ghost shows = { λ _ _. Unit {0} };
+    ghost shows = { IsExportShown };
 
     ghost tells = { IsTold };
 
@@ -152,8 +163,9 @@ impl<'a> Host for System<'a> {
         let _ = database.conn.close();
     }
 
-    fn take_up(&self, task: &Task, path: &str) -> Result<Self::Old, u8> {
-        take_up(&self.call(task), self.failure, path)
+    fn take_up(&self, task: &Task, path: &str, database: Self::Database) -> Result<Self::Old, u8> {
+        let conn = take_up(&self.call(task), path, database.conn)?;
+        Ok(Database { conn })
     }
 
     fn compare(
@@ -167,13 +179,13 @@ impl<'a> Host for System<'a> {
         (status, Database { conn })
     }
 
-    fn say_unopened(&self, task: &Task, path: &str, cause: Cause) {
+    fn say_unopened(&self, task: &Task, path: &str, cause: Cause) -> u8 {
         if let Cause::Memory = cause {
-            let _status = out_of_memory(self.rt);
-            return;
+            return out_of_memory(self.rt);
         }
-        let _ = println!(self.rt; "fault open");
+        let _ = write_fault(&mut self.rt.stdout(), PlainFault::Open);
         say_why(&self.call(task), path, cause);
+        STOPPED
     }
 
     fn load(&self, path: &str) -> Result<(Profile, Option<Rounding>), u8> {

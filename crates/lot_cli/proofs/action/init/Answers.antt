@@ -19,7 +19,7 @@ returns-in-Ok-clause-makes g c =
 
 pub returns-in-Err-clause-makes : goal.returns-in-Err-clause-makes
 returns-in-Err-clause-makes g c =
-    subst (λ conn. Makes (state g.S.Store c.args.conn) (state g.S.Store conn) (g.W.CountedWrite.contents c.args.writer.now) (g.W.CountedWrite.contents c.halted.new.writer) (record { before = g.W.CountedWrite.calls c.args.writer.now; after = g.W.CountedWrite.calls c.halted.new.writer }) (record { status = c.halted.result.status; halt = c.halted.result.halt }))
-    (sym c.halted.ensures.same)
-    (makes_none (state g.S.Store c.args.conn) (state g.S.Store c.in-Err.field-0.conn) _ _ (record { before = g.W.CountedWrite.calls c.args.writer.now; after = g.W.CountedWrite.calls c.halted.new.writer }) c.in-Err.field-0.fault (record { status = c.halted.result.status; halt = c.halted.result.halt }) c.in-Err.ensures.refused c.in-Err.ensures.other c.in-Err.ensures.handed_back c.in-Err.ensures.kept c.in-Err.ensures.crash_err
-    c.halted.ensures.says)
+    subst (λ conn. Makes (state g.S.Store c.args.conn) (state g.S.Store conn) (g.W.CountedWrite.contents c.args.writer.now) (g.W.CountedWrite.contents c.not_made.new.writer) (record { before = g.W.CountedWrite.calls c.args.writer.now; after = g.W.CountedWrite.calls c.not_made.new.writer }) (record { status = c.not_made.result.status; halt = c.not_made.result.halt }))
+    (sym c.not_made.ensures.same)
+    (makes_none (state g.S.Store c.args.conn) (state g.S.Store c.in-Err.left.conn) _ _ (record { before = g.W.CountedWrite.calls c.args.writer.now; after = g.W.CountedWrite.calls c.not_made.new.writer }) c.in-Err.left.fault (record { status = c.not_made.result.status; halt = c.not_made.result.halt }) c.in-Err.ensures.refused c.in-Err.ensures.other c.in-Err.ensures.handed_back c.in-Err.ensures.kept c.in-Err.ensures.crash_err
+    c.not_made.ensures.says)

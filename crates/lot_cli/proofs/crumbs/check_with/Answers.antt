@@ -21,12 +21,12 @@ returns-in-Err-clause-checks g c =
       bytes = g.R.CountedRead.remaining c.args.reader.now;
       left = g.R.CountedRead.remaining c.args.reader.now;
       calls = record { before = g.R.CountedRead.calls c.args.reader.now; after = g.R.CountedRead.calls c.args.reader.now };
-    }) (state g.S.Store c.args.conn) (state g.S.Store conn) (g.W.CountedWrite.contents c.args.writer.now) (g.W.CountedWrite.contents c.halted.new.writer)
-    (record { before = g.W.CountedWrite.calls c.args.writer.now; after = g.W.CountedWrite.calls c.halted.new.writer })
-    (record { status = c.halted.result.status; halt = c.halted.result.halt }))
-    (sym c.halted.ensures.same)
+    }) (state g.S.Store c.args.conn) (state g.S.Store conn) (g.W.CountedWrite.contents c.args.writer.now) (g.W.CountedWrite.contents c.not_made.new.writer)
+    (record { before = g.W.CountedWrite.calls c.args.writer.now; after = g.W.CountedWrite.calls c.not_made.new.writer })
+    (record { status = c.not_made.result.status; halt = c.not_made.result.halt }))
+    (sym c.not_made.ensures.same)
     (inl (
-      c.in-Err.field-0.fault,
+      c.in-Err.left.fault,
       record {
         refused = c.in-Err.ensures.refused;
         other = c.in-Err.ensures.other;
@@ -34,5 +34,5 @@ returns-in-Err-clause-checks g c =
         kept = c.in-Err.ensures.kept;
         crash = c.in-Err.ensures.crash_err;
       },
-      c.halted.ensures.says,
+      c.not_made.ensures.says,
     ))

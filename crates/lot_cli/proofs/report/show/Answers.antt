@@ -12,6 +12,9 @@ returns-in-GainsBy-clause-shows g c =
     let shows = rw (c.deref.ensures.value, c.form_of-in-GainsBy.ensures) at c.show_gains_by.ensures.shows in
     rw c.in-GainsBy.is (placed g.S.Store _ _ _ shows)
 
+pub returns-in-AddedGains-clause-shows : goal.returns-in-AddedGains-clause-shows
+returns-in-AddedGains-clause-shows g c = rw c.in-AddedGains.is (placed g.S.Store _ _ _ c.show_added_gains.ensures.shows)
+
 pub returns-in-HoldingsOn-clause-shows : goal.returns-in-HoldingsOn-clause-shows
 returns-in-HoldingsOn-clause-shows g c =
     let shows = rw c.form_of.ensures at c.show_holdings_on.ensures.shows in

@@ -12,4 +12,4 @@ returns-in-Ok-clause-crash_ok g c =
 pub returns-in-Err-clause-crash_err : goal.returns-in-Err-clause-crash_err
 returns-in-Err-clause-crash_err g c =
     let empty : (state g.S.Store c.args.conn).now.schema ≡ schema_of [] = search rules in
-    survives_weaker _ _ _ _ (λ clean trees left. (empty, left empty)) c.in-Err.ensures.crash
+    survives_weaker _ _ _ _ (λ clean trees left. (left.0, (empty, left.1 empty))) c.in-Err.ensures.crash_err

@@ -1,4 +1,6 @@
 use Rattle.std.proofs.Common.{◌≡◌, [], OnOk, arith, rules, subst}
+use Rattle.sqlite.proofs.Callers.{survives_begin}
+use Rattle.sqlite.proofs.StateLemmas.{survives_then}
 use Rattle.sqlite.specs.Held.{state}
 use Rattle.sqlite.specs.State.{HasCleanDisk, Survives}
 use Rattle.sqlite.specs.Tree.{Trees}
@@ -6,8 +8,8 @@ use Rattle.lot_stored.specs.StandFor.{Left, Stands}
 use Rattle.lot_table.specs.Shape.{schema_of}
 use Rattle.lot_table.proofs.BookLemmas.{on_ok}
 use Rattle.lot_store.proofs.ApplyLemmas.{stands_along}
-use Rattle.lot_store.proofs.CommitLemmas.{commit_leaves}
-use Rattle.lot_store.proofs.CreateLemmas.{made_in, none_left, none_stands, on_created}
+use Rattle.lot_store.proofs.CommitLemmas.{commit_leaves, leaves_none}
+use Rattle.lot_store.proofs.CreateLemmas.{made_in, none_left, none_stands, of_each_error, on_created, on_failed}
 use Rattle.lot_store.proofs.creation.make.Goals as goal
 
 pub returns-clause-made : goal.returns-clause-made
@@ -39,3 +41,14 @@ returns-clause-crash g c =
     let whole = commit_leaves g.S.Store old begun last c.commit.new.self.0 P c.transaction-tx.ensures.begun c.make_tables.ensures.crash made c.commit.ensures.survives in
     let same : c.commit.new.self.0 ≡ c.conn-2-1.given.0 = search rules in
     subst (λ h. Survives (state g.S.Store old) (state g.S.Store h) P) same whole
+
+pub returns-clause-crash_err : goal.returns-clause-crash_err
+returns-clause-crash_err g c = rw c.after_commit.ensures (on_failed c.commit.result _ _ _ (returns-clause-crash g c))
+
+pub returns-in_err-make_tables-clause-crash_err : goal.returns-in_err-make_tables-clause-crash_err
+returns-in_err-make_tables-clause-crash_err g c =
+    let old = c.args.conn.now in
+    let last = c.make_tables.new.tx.conn.now in
+    let wrote = survives_begin g.S.Store old (state g.S.Store last) (λ _. ⊥)
+    (subst (λ h. Survives (state g.S.Store h) (state g.S.Store last) (λ _. ⊥)) c.transaction-tx.ensures.begun c.make_tables.ensures.crash) in
+    of_each_error _ _ (λ fault. leaves_none _ _ _ (survives_then (state g.S.Store old) (state g.S.Store last) _ (λ _. ⊥) (λ _. ⊥) (λ _. ⊥) (λ _ db none. none) (λ _ db none. none) wrote (search rules)))

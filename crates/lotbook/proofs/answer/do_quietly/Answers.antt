@@ -5,7 +5,7 @@ returns g c = record {
   reads = _;
   before = _;
   written = _;
-  writes = _;
-  serves = c.serve.ensures.serves;
-  ends = c.serve.ensures.status;
+  writes = record { before = _; after = _ };
+  serves = rw c.preview.ensures at c.serve_with_preview.ensures.serves;
+  ends = c.serve_with_preview.ensures.status;
 }

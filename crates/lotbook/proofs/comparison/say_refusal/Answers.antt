@@ -1,5 +1,7 @@
-use Rattle.std.proofs.Common.{inl, inr}
 use Rattle.lotbook.proofs.comparison.say_refusal.Goals as goal
 
-pub returns : goal.returns
-returns c = elim (c.say_halt-status.ensures.says.0) [ inl said ↦ said.0 | inr cut ↦ cut.0 ]
+pub returns-clause-reported : goal.returns-clause-reported
+returns-clause-reported c = c.write_refusal-status.ensures.reported
+
+pub returns-clause-stops : goal.returns-clause-stops
+returns-clause-stops c = c.write_refusal-status.ensures.stops

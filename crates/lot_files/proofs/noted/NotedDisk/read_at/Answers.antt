@@ -5,4 +5,4 @@ use Rattle.lot_files.proofs.noted.NotedDisk.read_at.Goals as goal
 pub returns-clause-read : goal.returns-clause-read
 returns-clause-read g c =
     let read = c.read_at.ensures.read in
-    rw (sym c.pass.ensures) at read
+    rw (sym c.pass.ensures.same) at read

@@ -6,7 +6,7 @@ pub returns-clause-frozen : goal.returns-clause-frozen
 returns-clause-frozen g c = λ frozen.
     let stays = c.set_len.ensures.frozen frozen in
     let fails = stays.0 in (
-      rw (sym c.pass.ensures) at fails,
+      rw (sym c.pass.ensures.same) at fails,
       record {
         frozen = stays.1.frozen;
         same = stays.1.same;

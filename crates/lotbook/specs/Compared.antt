@@ -1,0 +1,88 @@
+-- What a comparison of a new book with an old one comes to, and what a book that can't be taken up comes to.
+use Rattle.std.specs.Prelude.{◌≡◌, ◌⊎◌, ℕ, List, Option, Result, Ok, Err, IsTrue, None, Some}
+use Rattle.sqlite.specs.Held.{Held, state}
+use Rattle.sqlite.specs.State.{HasCleanDisk}
+use Rattle.sqlite.specs.Store.{Ghosts}
+use Rattle.lot_cli.specs.Differ.{TellsDifferences}
+use Rattle.lot_cli.specs.Says.{Halts, told}
+use Rattle.lot_cli.specs.declared.halt.Halt.TheVariants as halt
+use Rattle.lot_io.specs.Writes.{WritesMade}
+use Rattle.lot_store.specs.Create.{TellsOf}
+use Rattle.lot_store.specs.declared.book.Book.{Book}
+use Rattle.lot_store.specs.declared.fault.AdoptFault.{AdoptFault}
+use Rattle.lot_store.specs.declared.fault.AdoptFault.TheVariants.{NotABook}
+use Rattle.lot_stream.specs.Status.{code_of}
+use Rattle.lot_stream.specs.declared.status.Status.{Status}
+
+-- why a book isn't taken up is reported, with that status
+pub record IsReported (fault : AdoptFault) (status : ℕ) : Type 0 where
+  pub before : Option (List ℕ)
+  pub written : Option (List ℕ)
+  pub calls : WritesMade
+  pub says : Halts (halt.Adopt fault) before written calls (told status (Some (halt.Adopt fault)))
+
+-- a new book isn't taken up for that reason: nothing is told where none was made, else it is reported
+abbrev pub IsNoneTold : AdoptFault → ℕ → ℕ → Type 0
+IsNoneTold fault served status = ((fault ≡ NotABook) × (status ≡ served)) ⊎ IsReported fault status
+
+-- a connection whose statements may take any number of steps
+abbrev pub unlimited : {S : Type 0} → Held S → Held S
+unlimited conn = record conn { step_limit = None }
+
+module _ {S : Type 0} (g : Ghosts S) where
+  -- whether the database of a connection is a book, which leaves it so
+  abbrev pub Adopts : Held S → Held S → Result (Unit {0}) AdoptFault → Type 0
+  Adopts opened left result = HasCleanDisk (state g left) → TellsOf (state g opened) (state g left) result
+
+  -- a connection shows no book for that reason: one that is in a transaction shows none
+  abbrev pub ShowsNone : Held S → Held S → AdoptFault → Type 0
+  ShowsNone opened left fault = (IsTrue opened.in_transaction × (fault ≡ NotABook)) ⊎ Adopts (unlimited opened) left (Err fault)
+
+  -- the book in a database is taken up
+  abbrev pub IsTakenUp : Held S → Held S → Type 0
+  IsTakenUp opened left = Adopts opened left (Ok tt)
+
+  -- it isn't, and why is reported
+  pub record IsRefused (opened : Held S) (status : ℕ) : Type 0 where
+    pub fault : AdoptFault
+    pub left : Held S
+    pub none : ShowsNone opened left fault
+    pub reported : IsReported fault status
+
+  -- no new book was made, so that nothing is compared
+  pub record IsNotMade (opened : Held S) (served status : ℕ) : Type 0 where
+    pub left : Held S
+    pub none : ShowsNone opened left NotABook
+    pub same : status ≡ served
+
+module _ {S T : Type 0} (g : Ghosts S) (h : Ghosts T) where
+  -- how two books differ is told, behind what ended with a status
+  pub record TellsBeside (new : Book S g) (old : Book T h) (served status : ℕ) : Type 0 where
+    pub new_left : Book S g
+    pub old_left : Book T h
+    pub end : Status
+    pub ended : code_of end ≡ served
+    pub before : Option (List ℕ)
+    pub written : Option (List ℕ)
+    pub calls : WritesMade
+    pub differ : TellsDifferences g h new new_left old old_left end before written calls status
+
+  -- the old book is taken up, and how they differ is told
+  pub record IsBeside (new : Book S g) (opened : Held T) (served status : ℕ) : Type 0 where
+    pub old : Book T h
+    pub adopts : IsTakenUp h (unlimited opened) old.conn
+    pub tells : TellsBeside new old served status
+
+  -- a new book is told beside what holds the old one, or that isn't taken up
+  abbrev pub IsToldBeside : Book S g → Held T → ℕ → ℕ → Type 0
+  IsToldBeside new opened served status = IsBeside new opened served status ⊎ IsRefused h opened status
+
+  -- the new book is taken up, and is told beside the old one
+  pub record IsMade (opened : Held S) (old : Held T) (served status : ℕ) : Type 0 where
+    pub new : Book S g
+    pub adopts : IsTakenUp g (unlimited opened) new.conn
+    pub beside : IsToldBeside new old served status
+
+  -- What a comparison comes to. Nothing is compared where no new book was made.
+  pub record IsCompared (opened : Held S) (old : Held T) (served status : ℕ) : Type 0 where
+    pub comes_to : IsMade opened old served status ⊎ IsNotMade g opened served status ⊎ IsRefused g opened status
