@@ -1,7 +1,7 @@
 #!/usr/bin/env bash
 # The edits beside the gate, crates/NAME/edits/*.edit: the prover has to refuse each. They are tried in a copy of the repository, in
-# which they stand in the place of those that the gate tries, over work that a check of the copy kept. The copy stays in .git/edits, where
-# there is a folder .git, so that a later run tries only what changed.
+# which they stand in the place of those that the gate tries, over the proofs that the gate kept. The copy stays in .git/edits, where there
+# is a folder .git, so that a later run tries only what changed.
 #
 #   tests/whole/edits.sh [NAME..]    the edits of these crates alone
 source "$(dirname "$(readlink -f "${BASH_SOURCE[0]}")")/../lib/cases.sh"
@@ -37,16 +37,18 @@ for crate in "${crates[@]}"; do
     wanted=$((wanted + $(ls "$copy/crates/$crate/must-fail" | wc -l)))
 done
 
-# A check takes up to 4 GB.
-jobs=$(awk -v most="$(nproc)" '/^MemAvailable:/ { jobs = int($2 / 4000000) } END { print jobs < 1 ? 1 : jobs < most ? jobs : most }' /proc/meminfo)
-if ! (cd "$copy" && rt all check --jobs "$jobs") >"$scratch/log" 2>&1 </dev/null; then
+# The proofs of what they change are those that the gate kept, or an earlier run; else they are done first.
+(cd "$copy" && rt ci "${crates[@]}") >"$scratch/log" 2>&1 </dev/null
+for crate in "${crates[@]}"; do
+    grep -qE "^rt: $crate (proved$|is kept:)" "$scratch/log" && continue
     tail -n 20 "$scratch/log"
-    fail "the copy is proved" "its edits show nothing"
+    fail "the copy is proved" "the edits show nothing: $crate isn't"
     finish
-fi
+done
 pass "the copy is proved"
+
 tried=0
-(cd "$copy" && rt must-fail "${crates[@]}") 2>&1 </dev/null | while IFS= read -r line; do
+while IFS= read -r line; do
     [[ $line =~ ^rt:\ must-fail\ ([^:]+):\ (.*)$ ]] || continue
     tried=$((tried + 1))
     case ${BASH_REMATCH[2]} in
@@ -54,6 +56,6 @@ tried=0
         "refused, as it must be"*) pass "${BASH_REMATCH[1]}" ;;
         *) fail "${BASH_REMATCH[1]}" "${BASH_REMATCH[2]}" ;;
     esac
-done
+done <"$scratch/log"
 if ((tried == wanted)); then pass "each edit was tried"; else fail "each edit was tried" "$tried of $wanted"; fi
 finish
