@@ -57,19 +57,6 @@ noted narration leg = record {
   narration = narration;
 }
 
--- the leg without the narration
-abbrev pub bare : NotedLeg → DatedLeg
-bare leg = record {
-  entry = leg.entry;
-  day = leg.day;
-  posting = leg.posting;
-  place = leg.place;
-  account = leg.account;
-  commodity = leg.commodity;
-  units = leg.units;
-  lot = leg.lot;
-}
-
 -- the legs of an entry, in the order of its postings
 abbrev pub noted_legs_of : Entry → List NotedLeg
 noted_legs_of entry = map (noted (narration_of entry.command)) (dated_legs_of entry)

@@ -1,16 +1,13 @@
 -- The keys by which the legs of a register are put into their order, and read again.
-use Rattle.std.specs.Prelude.{◌≡◌, ℕ, ℤ, true, List, filter, map}
+use Rattle.std.specs.Prelude.{◌≡◌, ℕ, ℤ, List, filter, map}
 use Rattle.std.specs.List.Sorted.{IsPermutation, IsSorted}
 use Rattle.std.specs.Ordering.{int_cmp, nat_cmp, ordering_then}
 use Rattle.std.specs.declared.cmp.Ordering.{Ordering}
 use Rattle.lot_legs.specs.declared.leg.DatedLeg.{DatedLeg}
 use Rattle.lot_register.specs.declared.leg.NotedLeg.{NotedLeg}
-use Rattle.lot_noted.specs.Book.{Asked, asked_in, bare, has, is_asked}
-use Rattle.lot_noted.specs.declared.kept.KeptLegs.{KeptLegs}
+use Rattle.lot_noted.specs.Book.{Asked, asked_in, has}
 use Rattle.lot_noted.specs.declared.key.LegKey.{LegKey}
 use Rattle.lot_noted.specs.declared.keys.LegKeys.{LegKeys}
-use Rattle.lot_noted.specs.declared.ordered.OrderedLegs.{OrderedLegs}
-use Rattle.lot_noted.specs.declared.ordered.OrderedLegs.TheVariants.{Keys, Whole}
 
 abbrev pub key_in : DatedLeg → LegKey
 key_in leg = record { day = leg.day; entry = leg.entry; posting = leg.posting; place = leg.place }
@@ -33,19 +30,6 @@ pub record AreInOrder (asked : Asked) (legs : List DatedLeg) (keys : List LegKey
   pub same : IsPermutation (asked_keys asked legs) keys
   pub sorted : IsSorted key_cmp keys
 
--- ---- legs that are taken
-
--- the legs that are kept are these, unless they are too many
-abbrev pub AreKept : List NotedLeg → KeptLegs → Type 0
-AreKept legs kept = kept.all ≡ true → kept.legs.items ≡ legs
-
--- these legs were taken, and no other: the keys are those of the legs that are asked for, in the order of the legs
-pub record HasTaken (asked : Asked) (legs : List NotedLeg) (keys : LegKeys) : Type 0 where
-  pub scope : asked_in keys.scope.now ≡ asked
-  pub keyed : keys.keys.items ≡ map key_of (filter (is_asked asked) legs)
-  pub kept : AreKept (filter (is_asked asked) legs) keys.kept
-
--- the legs that are asked for, in the order of their keys: whole, where that is the order in which they were taken, or by their keys
-abbrev pub AreOrdered : Asked → List NotedLeg → OrderedLegs → Type 0
-AreOrdered asked legs (Whole those) = (those.items ≡ filter (is_asked asked) legs) × AreInOrder asked (map bare legs) (map key_of those.items)
-AreOrdered asked legs (Keys keys) = AreInOrder asked (map bare legs) keys.items
+-- these legs were taken, and no other
+abbrev pub HasTaken : Asked → List DatedLeg → LegKeys → Type 0
+HasTaken asked legs keys = (asked_in keys.scope.now ≡ asked) × (keys.keys.items ≡ asked_keys asked legs)

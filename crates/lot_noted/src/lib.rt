@@ -3,21 +3,17 @@
 //!
 //! - `scope`: which legs are asked for.
 //! - `key`, `keys`: the keys of legs, which are taken leg by leg, and put into the order of days.
-//! - `kept`, `ordered`: the legs themselves, where they are given in that order and are few.
 //! - `narration`: the narration that the canonical text of a command has.
 //! - `laws`: which legs these are, in which order, and what they leave.
 #![tactic(auto)]
 
-mod kept;
 mod key;
 mod keys;
 pub mod laws;
 mod narration;
-mod ordered;
 mod scope;
 
 pub use key::LegKey;
 pub use keys::LegKeys;
 pub use narration::narration_in;
-pub use ordered::OrderedLegs;
 pub use scope::RegisterScope;

@@ -1,9 +1,9 @@
 ghost use Rattle.std.specs.Prelude.{◌≡◌, option_map};
-ghost use Rattle.lot_noted.specs.Book.{asked_in, is_asked, is_commodity, is_of};
+ghost use Rattle.lot_noted.specs.Book.{asked_in, has, is_commodity, is_of};
 ghost use Rattle.lot_walk.specs.Gains.{is_up_to};
 
 use lot_base::Day;
-use lot_register::NotedLeg;
+use lot_legs::DatedLeg;
 
 /// Which legs a register is over.
 #[derive(Clone, Copy)]
@@ -19,8 +19,8 @@ pub struct RegisterScope<'a> {
 
 impl RegisterScope<'_> {
     /// Returns whether a leg is one of these.
-    pub fn has(&self, leg: &NotedLeg) -> bool
-        ensures { result ≡ is_asked (asked_in self.now) leg.now }
+    pub fn has(&self, leg: &DatedLeg) -> bool
+        ensures { result ≡ has (asked_in self.now) leg.now.account leg.now.commodity leg.now.day }
     {
         is_of(self.account, leg.account.as_str())
             && (is_commodity(self.commodity, leg.commodity.as_str())

@@ -4,7 +4,6 @@ pub mod FewLemmas
 pub mod FindLemmas
 pub mod FirstLemmas
 pub mod LookLemmas
-pub mod NotedLemmas
 pub mod PlaceLemmas
 pub mod RecallLemmas
 pub mod SaidLemmas

@@ -1,3 +1,2 @@
-pub mod Noted
 pub mod Place
 pub mod Recall

@@ -1,5 +1,5 @@
 -- The legs that are read again at keys are those of a register.
-use Rattle.std.specs.Prelude.{◌≡◌, ◌≢◌, ℕ, List, [], ◌∷◌, ◌++◌, filter, IfErr, map, OnOk, Option, Result, Ok, Err}
+use Rattle.std.specs.Prelude.{◌≡◌, ◌≢◌, ℕ, List, [], ◌∷◌, ◌++◌, filter, map, OnOk, Option, Result, Ok, Err}
 use Rattle.std.specs.List.{AllByRecursion}
 use Rattle.std.specs.declared.cmp.Ordering.TheVariants.{Equal, Less}
 use Rattle.std.specs.Ordering.{is_lt}
@@ -13,33 +13,28 @@ use Rattle.sqlite_keyed.proofs.ListLemmas.{ascending_from_map}
 use Rattle.sqlite_rules.specs.Lists.{Has as HasRow}
 use Rattle.lot_book.specs.Book.{IsBook}
 use Rattle.lot_book.specs.Facts.{Entry}
-use Rattle.lot_book_report.proofs.ReadLemmas.{IsRead, reads_cut, reads_whole}
 use Rattle.lot_book_report.specs.Fault.{HasCause}
-use Rattle.lot_book_report.specs.Show.{ReadsBook}
 use Rattle.lot_book_report.specs.declared.fault.ShowFault.{ShowFault}
 use Rattle.lot_book_report.specs.declared.fault.ShowFault.TheVariants.{Row as AtRow, Walk as AtWalk}
 use Rattle.lot_io.specs.Writes.{NoneFailed, WritesMade}
 use Rattle.lot_legs.specs.Legs.{dated_legs}
 use Rattle.lot_legs.proofs.OrderLemmas.{legs_up}
-use Rattle.lot_noted.specs.Book.{Asked, bare, noted_legs, register_legs}
+use Rattle.lot_noted.specs.Book.{Asked, noted_legs, register_legs}
 use Rattle.lot_noted.specs.Keys.{AreInOrder, key_of}
 use Rattle.lot_noted.specs.declared.key.LegKey.{LegKey}
-use Rattle.lot_noted.proofs.BareLemmas.{IsBefore, bare_legs, keys_are, those_asked}
+use Rattle.lot_noted.proofs.BareLemmas.{IsBefore, bare, bare_legs, keys_are, those_asked}
 use Rattle.lot_noted.proofs.DayLemmas.{IsPlacedBelow, place_cmp}
-use Rattle.lot_recall.specs.Place.{AreAt, AreRowsAt, HasRows, HaveLegs, IsBehindRecalled, IsBehindRecalledRows}
+use Rattle.lot_recall.specs.Place.{AreAt, AreRowsAt, HaveLegs, IsBehindRecalled, IsBehindRecalledRows}
 use Rattle.lot_recall.specs.declared.place.RecallPlace.{RecallPlace}
 use Rattle.lot_recall.proofs.RecallLemmas.{once, tied_place}
 use Rattle.lot_register.specs.Register.{Terms}
 use Rattle.lot_register.specs.declared.leg.NotedLeg.{NotedLeg}
-use Rattle.lot_register_report.specs.Show.{AreKeysOf, AreKeysOfRows, IsOfKeys, IsOfLegs, ShowsAllLegs, ShowsRegister}
+use Rattle.lot_register_report.specs.Show.{AreKeysOf, AreKeysOfRows, IsOfKeys, ShowsAllLegs, ShowsRegister}
 use Rattle.lot_report.specs.declared.fault.ReportFault.TheVariants.{Memory, Range, Write}
 use Rattle.lot_report.specs.declared.fault.RowFault.TheVariants.{Report, Spent}
 use Rattle.lot_rows.specs.Tables.{Has, Tables}
 use Rattle.lot_stored.specs.StandFor.{StandFor, Stands}
 use Rattle.lot_store.specs.Walk.{HasGiven, HasGivenRows}
-use Rattle.lot_store.specs.declared.book.Book.{Book}
-use Rattle.lot_store.specs.declared.book.Condition.TheVariants.{NeedsReopen as Unusable}
-use Rattle.lot_store.specs.declared.fault.StoreFault.TheVariants.{NeedsReopen}
 use Rattle.lot_store.specs.declared.walk.Stage.TheVariants.{Going}
 use Rattle.lot_store.specs.declared.walk.Walk.{Walk}
 use Rattle.lot_store.specs.declared.walk.WalkFault.TheVariants.{Ended, Failed}
@@ -49,7 +44,7 @@ use Rattle.lot_walk.specs.Step.{IsPrefix}
 -- ---- the legs of a book
 
 -- each of a list is in it
-pub all_within : {X : Type 0} (xs : List X) (P : X → Type 0) → ((x : X) → HasRow xs x → P x) → AllByRecursion P xs
+all_within : {X : Type 0} (xs : List X) (P : X → Type 0) → ((x : X) → HasRow xs x → P x) → AllByRecursion P xs
 all_within [] P each = tt
 all_within (x ∷ xs) P each = (each x (inl refl), all_within xs P (λ y has. each y (inr has)))
 
@@ -107,31 +102,6 @@ module _ (asked : Asked) (entries : List Entry) where
           → (legs : List NotedLeg) × AreAt keys entries legs × ShowsRegister terms legs start now result
           → ShowsRegister terms (register_legs asked entries) start now result
       of_book terms start now result (legs, at, shows) = subst (λ (ls : List NotedLeg). ShowsRegister terms ls start now result) (legs_are legs at) shows
-
--- legs that are whole are at their own keys
-pub whole_of_book : (asked : Asked) (entries : List Entry) → IsBook entries → (legs : List NotedLeg) → AreKeysOf asked entries (map key_of legs)
-    → AllByRecursion (HasRow (noted_legs entries)) legs → (terms : Terms) (start now : Option (List ℕ)) (result : Result (Unit {0}) ShowFault)
-    → ShowsRegister terms legs start now result → ShowsRegister terms (register_legs asked entries) start now result
-whole_of_book asked entries book legs are among terms start now result shows =
-    of_book asked entries book (map key_of legs) are terms start now result (legs, record { keyed = refl; among = among }, shows)
-
-pub whole_of_tables : (terms : Terms) (asked : Asked) (tables : Tables) (legs : List NotedLeg) (start now : Option (List ℕ))
-    (result : Result (Unit {0}) ShowFault) → AreKeysOfRows asked tables (map key_of legs) → AllByRecursion (HasRows tables) legs
-    → ShowsRegister terms legs start now result → ShowsAllLegs terms asked tables start now result
-whole_of_tables terms asked tables legs start now (Ok done) are rows shows = (map key_of legs, are, legs, record { keyed = refl; rows = rows }, shows)
-whole_of_tables terms asked tables legs start now (Err fault) are rows shows = tt
-
--- the book was read, and then the rows are written
-pub legs_read : {S : Type 0} (g : Ghosts S) (old new : Book S g) (result : Result (Unit {0}) ShowFault) → IsRead g old new → old.condition ≢ Unusable
-    → IfErr result IsOfLegs → ReadsBook {A = Unit {0}} g old new result
-legs_read g old new (Ok done) read usable of = reads_whole g {A = Unit {0}} old new done read usable
-legs_read g old new (Err (AtWalk fault)) read usable of = absurd of
-legs_read g old new (Err (AtRow (Report fault))) read usable of = reads_cut g {A = Unit {0}} old new (Report fault) (λ is. cc) read usable
-legs_read g old new (Err (AtRow Spent)) read usable of = absurd of
-
-pub was_usable : {S A : Type 0} (g : Ghosts S) (old new : Book S g) (made : A) → ReadsBook {A = A} g old new (Ok made) → old.condition ≢ Unusable
-was_usable {S} {A} g old new made reads spent =
-    let is : ◌≡◌ {A = Result A ShowFault} (Ok made) (Err (AtWalk (Failed NeedsReopen))) = reads.reopen.1 spent in cc
 
 -- ---- the walk over them
 

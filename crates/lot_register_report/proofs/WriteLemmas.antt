@@ -1,7 +1,7 @@
 -- What is written of a register that is fed the legs of a walk.
-use Rattle.std.specs.Prelude.{◌≡◌, ◌+◌, ◌<◌, ℕ, zero, suc, length, ℤ, Bool, true, false, cond, if◌then◌else◌, IfSome, List, [], ◌∷◌, ◌++◌, drop, map, take, Option, Some, None, Result, Ok, Err}
+use Rattle.std.specs.Prelude.{◌≡◌, ℕ, ℤ, Bool, true, false, cond, if◌then◌else◌, IfSome, List, [], ◌∷◌, ◌++◌, map, Option, Some, None, Result, Ok, Err}
 use Rattle.std.specs.Io.KnownBytes.{Appends}
-use Rattle.std.proofs.Common.{arith, get_or, refl, sym, ap, subst, ◌∙◌, append_assoc, append-nil, inl, inr}
+use Rattle.std.proofs.Common.{refl, sym, ap, subst, ◌∙◌, append_assoc, append-nil, inl, inr}
 use Rattle.std.proofs.KnownBytes.{Appends-nil, Appends-trans}
 use Rattle.std.proofs.lemmas.Grind.{flat_map-append}
 use Rattle.std.proofs.lemmas.List.{map-append}
@@ -252,90 +252,6 @@ module _ (terms : Terms) (start : Option (List ℕ)) where
         subst (AppendsPrefix start later) (sym (joined_both (lines_to terms.0 terms.1 legs) (foot_lines terms.0 (written_rows terms.1 legs))))
             (prefix_behind start now later (lines legs) (joined (foot_lines terms.0 (written_rows terms.1 legs))) has.written part),
       )
-
--- ---- legs that are whole
-
--- a register that had taken none has taken these
-abbrev pub Feeds : Register → Option (List ℕ) → List NotedLeg → Register → Option (List ℕ) → Type 0
-Feeds begun start legs register now = (terms : Terms) → HasTaken terms [] begun → HasFed terms start legs register now
-
-abbrev pub ShowsThese : Register → Option (List ℕ) → List NotedLeg → Option (List ℕ) → Result (Unit {0}) ShowFault → Type 0
-ShowsThese begun start legs now result = (terms : Terms) → HasTaken terms [] begun → ShowsRegister terms legs start now result
-
-module _ (begun : Register) (start : Option (List ℕ)) (all : List NotedLeg) where
-  abbrev AreThese : List NotedLeg → Type 0
-  AreThese legs = legs ≡ all
-
-  these : (terms : Terms) (now : Option (List ℕ)) (result : Result (Unit {0}) ShowFault) → ShowsAll terms start AreThese now result
-      → ShowsRegister terms all start now result
-  these terms now result (legs, is, shows) = subst (λ (ls : List NotedLeg). ShowsRegister terms ls start now result) is shows
-
-  pub these_no_head : (now : Option (List ℕ)) (fault : PrintFault)
-      → ((terms : Terms) (legs : List NotedLeg) → HasTaken terms legs begun → WritesEach (λ (text : List ℕ). text) (head_lines terms.0) start now (Err fault))
-      → ShowsThese begun start all now (Err (AtRow (Report (report_fault fault))))
-  these_no_head now fault part = λ terms fresh.
-      these terms now (Err (AtRow (Report (report_fault fault)))) (no_head terms start AreThese (all, refl) now fault (part terms [] fresh))
-
-  pub these_begun : (now : Option (List ℕ)) (done : Unit {0})
-      → ((terms : Terms) (legs : List NotedLeg) → HasTaken terms legs begun → WritesEach (λ (text : List ℕ). text) (head_lines terms.0) start now (Ok done))
-      → Feeds begun start [] begun now
-  these_begun now done wrote = λ terms fresh. fed_none terms start begun now fresh (wrote terms [] fresh)
-
-  module _ (legs : List NotedLeg) (register : Register) (now : Option (List ℕ)) (feeds : Feeds begun start legs register now) where
-    pub these_more : (leg : NotedLeg) (later : Register) (written : Option (List ℕ)) (done : Unit {0})
-        → ((terms : Terms) (before : List NotedLeg) → HasTaken terms before register → TakesLeg terms before leg later now written (Ok done))
-        → Feeds begun start (legs ++ leg ∷ []) later written
-    these_more leg later written done takes = λ terms fresh.
-        let has = feeds terms fresh in fed_more terms start legs register now has leg later written done (takes terms legs has.taken)
-
-    pub these_cut : (leg : NotedLeg) (rest : List NotedLeg) → (legs ++ leg ∷ []) ++ rest ≡ all → (later : Register) (written : Option (List ℕ)) (fault : ReportFault)
-        → ((terms : Terms) (before : List NotedLeg) → HasTaken terms before register → TakesLeg terms before leg later now written (Err fault))
-        → ShowsThese begun start all written (Err (AtRow (Report fault)))
-    these_cut leg rest is later written fault takes = λ terms fresh.
-        let has = feeds terms fresh in
-        these terms written (Err (AtRow (Report fault)))
-        (cut terms start legs register now has AreThese leg later written fault (rest, is) (takes terms legs has.taken))
-
-    module _ (is : legs ≡ all) where
-      pub these_whole : (later : Option (List ℕ)) (done : Unit {0})
-          → ((terms : Terms) (before : List NotedLeg) → HasTaken terms before register
-          → WritesEach (λ (text : List ℕ). text) (foot_lines terms.0 (written_rows terms.1 before)) now later (Ok done))
-          → ShowsThese begun start all later (Ok tt)
-      these_whole later done wrote = λ terms fresh.
-          let has = feeds terms fresh in these terms later (Ok tt) (whole terms start legs register now has AreThese later done is (wrote terms legs has.taken))
-
-      pub these_cut_at_end : (later : Option (List ℕ)) (fault : PrintFault)
-          → ((terms : Terms) (before : List NotedLeg) → HasTaken terms before register
-          → WritesEach (λ (text : List ℕ). text) (foot_lines terms.0 (written_rows terms.1 before)) now later (Err fault))
-          → ShowsThese begun start all later (Err (AtRow (Report (report_fault fault))))
-      these_cut_at_end later fault part = λ terms fresh.
-          let has = feeds terms fresh in
-          these terms later (Err (AtRow (Report (report_fault fault))))
-          (cut_at_end terms start legs register now has AreThese later fault is (part terms legs has.taken))
-
-next_suc : (legs : List NotedLeg) (at : ℕ) (d : NotedLeg) → at < length legs
-    → (take at legs ++ get_or legs at d ∷ [] ≡ take (suc at) legs) × ((take at legs ++ get_or legs at d ∷ []) ++ drop (suc at) legs ≡ legs)
-next_suc [] at d low = absurd (omega (arith, low))
-next_suc (first ∷ legs) zero d low = (refl, refl)
-next_suc (first ∷ legs) (suc at) d low =
-    let rest = next_suc legs at d (omega (arith, low)) in
-    (ap (λ ls. first ∷ ls) rest.0, ap (λ ls. first ∷ ls) rest.1)
-
-one_up : (at : ℕ) → suc at ≡ at + 1
-one_up at = omega arith
-
--- the next leg of a list
-pub next_leg : (legs : List NotedLeg) (at : ℕ) (d : NotedLeg) → at < length legs
-    → (take at legs ++ get_or legs at d ∷ [] ≡ take (at + 1) legs) × ((take at legs ++ get_or legs at d ∷ []) ++ drop (at + 1) legs ≡ legs)
-next_leg legs at d low =
-    let next = next_suc legs at d low in
-    (next.0 ∙ ap (λ n. take n legs) (one_up at), ap (λ n. (take at legs ++ get_or legs at d ∷ []) ++ drop n legs) (sym (one_up at)) ∙ next.1)
-
-pub next_item : (legs : List NotedLeg) (at : ℕ) (leg : NotedLeg) → at < length legs → leg ≡ get_or legs at leg
-    → (take at legs ++ leg ∷ [] ≡ take (at + 1) legs) × ((take at legs ++ leg ∷ []) ++ drop (at + 1) legs ≡ legs)
-next_item legs at leg low is =
-    subst (λ (l : NotedLeg). (take at legs ++ l ∷ [] ≡ take (at + 1) legs) × ((take at legs ++ l ∷ []) ++ drop (at + 1) legs ≡ legs)) (sym is)
-    (next_leg legs at leg low)
 
 -- whichever legs those are
 abbrev pub AreAny : List NotedLeg → Type 0

@@ -1,23 +1,19 @@
 -- The register of accounts of a book, written as its legs are read (docs/FORMATS.md, Register).
 use Rattle.std.specs.Prelude.{◌≡◌, ◌⊎◌, ℕ, ℤ, IsTrue, not, List, [], ◌∷◌, ◌++◌, map, OnOk, Option, Result, Ok, Err, ⊤}
 use Rattle.std.specs.Io.KnownBytes.{Appends}
-use Rattle.std.specs.List.{AllByRecursion}
-use Rattle.sqlite_rules.specs.Lists.{Has as HasRow}
 use Rattle.lot_book.specs.Facts.{Entry}
 use Rattle.lot_book_report.specs.declared.fault.ShowFault.{ShowFault}
 use Rattle.lot_book_report.specs.declared.fault.ShowFault.TheVariants.{Row as AtRow, Walk as AtWalk}
 use Rattle.lot_legs.specs.Legs.{AreAllLegRows, dated_legs}
 use Rattle.lot_legs.specs.declared.leg.DatedLeg.{DatedLeg}
-use Rattle.lot_noted.specs.Book.{Asked, noted_legs}
-use Rattle.lot_noted.specs.Keys.{AreInOrder, HasTaken as HasTakenKeys, key_of}
+use Rattle.lot_noted.specs.Book.{Asked}
+use Rattle.lot_noted.specs.Keys.{AreInOrder, HasTaken as HasTakenKeys}
 use Rattle.lot_noted.specs.declared.key.LegKey.{LegKey}
-use Rattle.lot_noted.specs.declared.ordered.OrderedLegs.{OrderedLegs}
-use Rattle.lot_noted.specs.declared.ordered.OrderedLegs.TheVariants.{Keys, Whole}
-use Rattle.lot_recall.specs.Place.{AreRowsAt, HasRows}
+use Rattle.lot_recall.specs.Place.{AreRowsAt}
 use Rattle.lot_register.specs.Left.{stays}
 use Rattle.lot_register.specs.Register.{Terms, lines_to, register_lines}
 use Rattle.lot_register.specs.declared.leg.NotedLeg.{NotedLeg}
-use Rattle.lot_register_report.specs.declared.read.KeyTally.{KeyTally}
+use Rattle.lot_register_report.specs.declared.keys.KeyTally.{KeyTally}
 use Rattle.lot_report.specs.Fed.{joined}
 use Rattle.lot_report.specs.Report.{EachFits}
 use Rattle.lot_report.specs.Written.{AppendsPrefix}
@@ -36,22 +32,12 @@ AreKeysOf asked entries keys = AreInOrder asked (dated_legs entries) keys
 abbrev pub AreKeysOfRows : Asked → Tables → List LegKey → Type 0
 AreKeysOfRows asked tables keys = (legs : List DatedLeg) × AreAllLegRows tt tables legs × AreInOrder asked legs keys
 
--- The legs that are read, or their keys, are those of the book that are asked for, in their own order.
-abbrev pub AreReadOf : Asked → List Entry → OrderedLegs → Type 0
-AreReadOf asked entries (Whole legs) = AreKeysOf asked entries (map key_of legs.items) × AllByRecursion (HasRow (noted_legs entries)) legs.items
-AreReadOf asked entries (Keys keys) = AreKeysOf asked entries keys.items
-
--- the same of all rows of the table, whatever it stands for
-abbrev pub AreReadOfRows : Asked → Tables → OrderedLegs → Type 0
-AreReadOfRows asked tables (Whole legs) = AreKeysOfRows asked tables (map key_of legs.items) × AllByRecursion (HasRows tables) legs.items
-AreReadOfRows asked tables (Keys keys) = AreKeysOfRows asked tables keys.items
-
 -- these legs were taken, and no other
-abbrev pub HasTaken : Asked → List NotedLeg → KeyTally → Type 0
+abbrev pub HasTaken : Asked → List DatedLeg → KeyTally → Type 0
 HasTaken asked legs tally = HasTakenKeys asked legs tally.keys
 
 -- keys are taken, and none is written
-abbrev pub AreNoLines : Asked → List NotedLeg → List (List ℕ) → Type 0
+abbrev pub AreNoLines : Asked → List DatedLeg → List (List ℕ) → Type 0
 AreNoLines asked legs lines = lines ≡ []
 
 -- the fault is one of the book, or of memory
@@ -61,12 +47,6 @@ IsOfKeys (AtRow (Report Memory)) = ⊤
 IsOfKeys (AtRow (Report Range)) = ⊥
 IsOfKeys (AtRow (Report Write)) = ⊥
 IsOfKeys (AtRow Spent) = ⊥
-
--- the fault is one of a row, or of memory beside it
-abbrev pub IsOfLegs : ShowFault → Type 0
-IsOfLegs (AtWalk fault) = ⊥
-IsOfLegs (AtRow (Report fault)) = ⊤
-IsOfLegs (AtRow Spent) = ⊥
 
 -- ---- what is written
 

@@ -1,5 +1,4 @@
--- The legs are read first, and then their rows are written; or the legs at their keys are read again.
-use Rattle.std.specs.Prelude.{◌≡◌}
+-- The keys are read first, and then the legs at them are written.
 use Rattle.std.proofs.Common.{[], Err, ap, refl, rules, subst, sym}
 use Rattle.std.proofs.lemmas.Result.{err_from_is_err_and}
 use Rattle.sqlite.specs.Held.{state}
@@ -8,9 +7,7 @@ use Rattle.lot_book_report.proofs.CsvLemmas.{walked}
 use Rattle.lot_book_report.proofs.HoldingLemmas.{same_fault}
 use Rattle.lot_book_report.proofs.ReadLemmas.{handed_holds, handed_tables, reads_then, stands_still, was_read}
 use Rattle.lot_noted.specs.Book.{asked_in, register_legs}
-use Rattle.lot_register_report.proofs.LegLemmas.{have_legs, legs_read, of_book, of_tables, rows_begin, unread, unread_cause, walk_begins, was_usable, whole_of_book, whole_of_tables}
-use Rattle.lot_register.specs.Register.{Terms}
-use Rattle.lot_register_report.specs.Show.{ShowsRegister}
+use Rattle.lot_register_report.proofs.LegLemmas.{have_legs, of_book, of_tables, rows_begin, unread, unread_cause, walk_begins}
 use Rattle.lot_rows.proofs.StateLemmas.{early}
 use Rattle.lot_rows.specs.Tables.{Has}
 use Rattle.lot_store.proofs.ApplyLemmas.{stands_along}
@@ -18,93 +15,53 @@ use Rattle.lot_stored.specs.StandFor.{Stands}
 use Rattle.lot_walk.proofs.PlaceLemmas.{has_still}
 use Rattle.lot_register_report.proofs.show.show_register.Goals as goal
 
--- ---- the legs aren't read
+-- ---- the keys aren't read
 
-pub returns-in_err-ordered-clause-shows : goal.returns-in_err-ordered-clause-shows
-returns-in_err-ordered-clause-shows g c =
+pub returns-in_err-keys-clause-shows : goal.returns-in_err-keys-clause-shows
+returns-in_err-keys-clause-shows g c =
     let fault = err_from_is_err_and c.from_residual.result c.from_residual.ensures.1 in
-    let read = c.in_err-ordered.ensures in
+    let read = c.in_err-keys.ensures in
     rw (fault.1, fault.2) (record {
       holds = λ clean entries stands.
-          unread (c.args.form, c.args.first) (register_legs (asked_in c.args.scope.now) entries) _ c.in_err-ordered.field-0.0 read.fault (λ is. read.reads.going (ap Err is));
+          unread (c.args.form, c.args.first) (register_legs (asked_in c.args.scope.now) entries) _ c.in_err-keys.field-0.0 read.fault (λ is. read.reads.going (ap Err is));
     })
 
-pub returns-in_err-ordered-clause-some : goal.returns-in_err-ordered-clause-some
-returns-in_err-ordered-clause-some g c =
+pub returns-in_err-keys-clause-some : goal.returns-in_err-keys-clause-some
+returns-in_err-keys-clause-some g c =
     let fault = err_from_is_err_and c.from_residual.result c.from_residual.ensures.1 in
-    let read = c.in_err-ordered.ensures in
-    rw (fault.1, fault.2) ([], unread (c.args.form, c.args.first) [] _ c.in_err-ordered.field-0.0 read.fault (λ is. read.reads.going (ap Err is)))
+    let read = c.in_err-keys.ensures in
+    rw (fault.1, fault.2) ([], unread (c.args.form, c.args.first) [] _ c.in_err-keys.field-0.0 read.fault (λ is. read.reads.going (ap Err is)))
 
-pub returns-in_err-ordered-clause-rows : goal.returns-in_err-ordered-clause-rows
-returns-in_err-ordered-clause-rows g c =
+pub returns-in_err-keys-clause-rows : goal.returns-in_err-keys-clause-rows
+returns-in_err-keys-clause-rows g c =
     let fault = err_from_is_err_and c.from_residual.result c.from_residual.ensures.1 in
     rw fault.1 (record { holds = λ clean tables has. tt })
 
-pub returns-in_err-ordered-clause-reads : goal.returns-in_err-ordered-clause-reads
-returns-in_err-ordered-clause-reads g c =
+pub returns-in_err-keys-clause-reads : goal.returns-in_err-keys-clause-reads
+returns-in_err-keys-clause-reads g c =
     let fault = err_from_is_err_and c.from_residual.result c.from_residual.ensures.1 in
-    rw (fault.1, fault.2) (same_fault g.S.Store c.args.book.now c.read_ordered.new.book c.in_err-ordered.field-0.0 c.in_err-ordered.ensures.reads)
+    rw (fault.1, fault.2) (same_fault g.S.Store c.args.book.now c.read_keys.new.book c.in_err-keys.field-0.0 c.in_err-keys.ensures.reads)
 
-pub returns-in_err-ordered-clause-cause : goal.returns-in_err-ordered-clause-cause
-returns-in_err-ordered-clause-cause g c =
+pub returns-in_err-keys-clause-cause : goal.returns-in_err-keys-clause-cause
+returns-in_err-keys-clause-cause g c =
     let fault = err_from_is_err_and c.from_residual.result c.from_residual.ensures.1 in
     rw (fault.1, fault.2)
-    (unread_cause c.in_err-ordered.field-0.0 (record { before = g.W.CountedWrite.calls c.args.writer.now; after = g.W.CountedWrite.calls c.args.writer.now }) c.in_err-ordered.ensures.fault
+    (unread_cause c.in_err-keys.field-0.0 (record { before = g.W.CountedWrite.calls c.args.writer.now; after = g.W.CountedWrite.calls c.args.writer.now }) c.in_err-keys.ensures.fault
     refl)
 
--- ---- whole legs are written
-
-pub returns-in-Whole-clause-shows : goal.returns-in-Whole-clause-shows
-returns-in-Whole-clause-shows g c =
-    let terms : Terms = (c.args.form, c.args.first) in
-    let same : c.deref.result.now ≡ c.in-Whole.legs.items = search rules in
-    let shows =
-    subst (λ ls. ShowsRegister terms ls (g.W.CountedWrite.contents c.args.writer.now) (g.W.CountedWrite.contents c.write_legs.new.writer) c.write_legs.result) same
-    (c.write_legs.ensures.shows terms c.new-register.ensures) in
-    record {
-      holds = λ clean entries stands.
-          let read = (rw c.in-Whole.is at c.in_ok-ordered.ensures.legs.holds) clean entries stands in
-          whole_of_book (asked_in c.args.scope.now) entries stands.book c.in-Whole.legs.items read.0 read.1 terms (g.W.CountedWrite.contents c.args.writer.now)
-          (g.W.CountedWrite.contents c.write_legs.new.writer) c.write_legs.result shows;
-    }
-
-pub returns-in-Whole-clause-some : goal.returns-in-Whole-clause-some
-returns-in-Whole-clause-some g c = (c.deref.result.now, c.write_legs.ensures.shows (c.args.form, c.args.first) c.new-register.ensures)
-
-pub returns-in-Whole-clause-rows : goal.returns-in-Whole-clause-rows
-returns-in-Whole-clause-rows g c =
-    let terms : Terms = (c.args.form, c.args.first) in
-    let same : c.deref.result.now ≡ c.in-Whole.legs.items = search rules in
-    let shows =
-    subst (λ ls. ShowsRegister terms ls (g.W.CountedWrite.contents c.args.writer.now) (g.W.CountedWrite.contents c.write_legs.new.writer) c.write_legs.result) same
-    (c.write_legs.ensures.shows terms c.new-register.ensures) in
-    record {
-      holds = λ clean tables has.
-          let read = (rw c.in-Whole.is at c.in_ok-ordered.ensures.rows.holds) clean tables has in
-          whole_of_tables terms (asked_in c.args.scope.now) tables c.in-Whole.legs.items (g.W.CountedWrite.contents c.args.writer.now)
-          (g.W.CountedWrite.contents c.write_legs.new.writer) c.write_legs.result read.0 read.1 shows;
-    }
-
-pub returns-in-Whole-clause-reads : goal.returns-in-Whole-clause-reads
-returns-in-Whole-clause-reads g c =
-    let old = c.args.book.now in
-    let mid = c.read_ordered.new.book in
-    legs_read g.S.Store old mid c.write_legs.result (was_read g.S.Store old mid _ c.in_ok-ordered.ensures.reads)
-    (was_usable g.S.Store old mid _ c.in_ok-ordered.ensures.reads) c.write_legs.ensures.of_legs
-
--- ---- the legs at their keys are written
+-- ---- the legs at them are written
 
 pub write_register-requires-clause-begun : goal.write_register-requires-clause-begun
 write_register-requires-clause-begun g c = λ clean entries stands.
     let old = c.args.book.now in
-    let mid = c.read_ordered.new.book in
+    let mid = c.read_keys.new.book in
     let walk = c.walk_from-walk.result in
-    let keys = c.in-Keys.keys.items in
+    let keys = c.in_ok-keys.keys.items in
     let was = subst (λ book. HasCleanDisk (state g.S.Store book.conn)) c.walk_from-walk.ensures.same clean in
     let there = subst (λ book. Stands (state g.S.Store book.conn) entries) c.walk_from-walk.ensures.same stands in
-    let read = was_read g.S.Store old mid _ c.in_ok-ordered.ensures.reads in
+    let read = was_read g.S.Store old mid _ c.in_ok-keys.ensures.reads in
     let before = stands_along (state g.S.Store mid.conn) (state g.S.Store old.conn) entries (sym (read.same was).now) there in
-    let are = (rw c.in-Keys.is at c.in_ok-ordered.ensures.legs.holds) was entries before in (
+    let are = c.in_ok-keys.ensures.keys.holds was entries before in (
       keys,
       walk_begins g.S.Store walk c.new.result keys c.walk_from-walk.ensures.going c.walk_from-walk.ensures.place entries stands c.new.ensures.begun
           (have_legs (asked_in c.args.scope.now) entries stands.book keys are),
@@ -113,17 +70,17 @@ write_register-requires-clause-begun g c = λ clean entries stands.
 pub returns-clause-shows : goal.returns-clause-shows
 returns-clause-shows g c =
     let old = c.args.book.now in
-    let mid = c.read_ordered.new.book in
+    let mid = c.read_keys.new.book in
     let walk = c.walk_from-walk.result in
     let after = c.write_register.new.walk.book.now in
-    let keys = c.in-Keys.keys.items in
+    let keys = c.in_ok-keys.keys.items in
     let asked = asked_in c.args.scope.now in
-    let read = was_read g.S.Store old mid _ c.in_ok-ordered.ensures.reads in
+    let read = was_read g.S.Store old mid _ c.in_ok-keys.ensures.reads in
     handed_holds g.S.Store old after _ _ (search rules) (record {
       holds = λ clean entries stands.
           let begun = early (state g.S.Store walk.book.now.conn) (state g.S.Store after.conn) c.write_register.ensures.reads.crash clean in
           let was = subst (λ book. HasCleanDisk (state g.S.Store book.conn)) c.walk_from-walk.ensures.same begun in
-          let are = (rw c.in-Keys.is at c.in_ok-ordered.ensures.legs.holds) was entries stands in
+          let are = c.in_ok-keys.ensures.keys.holds was entries stands in
           let there = stands_still (state g.S.Store old.conn) (state g.S.Store mid.conn) entries (read.same was) stands in
           let here = subst (λ book. Stands (state g.S.Store book.conn) entries) (sym c.walk_from-walk.ensures.same) there in
           of_book asked entries stands.book keys are (c.args.form, c.args.first) _ _ c.write_register.result
@@ -138,19 +95,19 @@ returns-clause-some g c = c.write_register.ensures.some (c.args.form, c.args.fir
 pub returns-clause-rows : goal.returns-clause-rows
 returns-clause-rows g c =
     let old = c.args.book.now in
-    let mid = c.read_ordered.new.book in
+    let mid = c.read_keys.new.book in
     let walk = c.walk_from-walk.result in
     let after = c.write_register.new.walk.book.now in
-    let keys = c.in-Keys.keys.items in
+    let keys = c.in_ok-keys.keys.items in
     let asked = asked_in c.args.scope.now in
-    let read = was_read g.S.Store old mid _ c.in_ok-ordered.ensures.reads in
+    let read = was_read g.S.Store old mid _ c.in_ok-keys.ensures.reads in
     handed_tables g.S.Store old after _ _ (search rules) (record {
       holds = λ clean tables has.
           let begun = early (state g.S.Store walk.book.now.conn) (state g.S.Store after.conn) c.write_register.ensures.reads.crash clean in
           let was = subst (λ book. HasCleanDisk (state g.S.Store book.conn)) c.walk_from-walk.ensures.same begun in
           let there = has_still (state g.S.Store old.conn) (state g.S.Store mid.conn) tables (read.same was) has in
           let here = subst (λ book. Has (state g.S.Store book.conn) tables) (sym c.walk_from-walk.ensures.same) there in
-          of_tables (c.args.form, c.args.first) asked tables keys _ _ c.write_register.result ((rw c.in-Keys.is at c.in_ok-ordered.ensures.rows.holds) was tables has)
+          of_tables (c.args.form, c.args.first) asked tables keys _ _ c.write_register.result (c.in_ok-keys.ensures.rows.holds was tables has)
           (c.write_register.ensures.rows (c.args.form, c.args.first) c.new-register.ensures clean keys tables
           (rows_begin g.S.Store walk c.new.result keys c.walk_from-walk.ensures.going c.walk_from-walk.ensures.place tables here c.new.ensures.rows));
     })
@@ -158,7 +115,7 @@ returns-clause-rows g c =
 pub returns-clause-reads : goal.returns-clause-reads
 returns-clause-reads g c =
     let old = c.args.book.now in
-    let mid = c.read_ordered.new.book in
-    reads_then g.S.Store old mid _ (was_read g.S.Store old mid _ c.in_ok-ordered.ensures.reads) c.write_register.result
+    let mid = c.read_keys.new.book in
+    reads_then g.S.Store old mid _ (was_read g.S.Store old mid _ c.in_ok-keys.ensures.reads) c.write_register.result
     (walked g.S.Store mid c.walk_from-walk.result.book.now c.write_register.new.walk.book.now _ c.write_register.result c.walk_from-walk.ensures.same (search rules)
     c.write_register.ensures.reads)

@@ -1,0 +1,6 @@
+mod AppendLemmas
+mod BalanceLemmas
+mod CellLemmas
+mod EntryLemmas
+mod PlainLemmas
+mod SaleLemmas

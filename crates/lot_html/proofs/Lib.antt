@@ -1,0 +1,3 @@
+mod CharLemmas
+mod DigitLemmas
+mod LawLemmas

@@ -1,0 +1,4 @@
+pub mod Page
+pub mod Parts
+pub mod Sections
+pub mod Text

@@ -1,0 +1,4 @@
+pub mod GridLemmas
+pub mod PieceLemmas
+pub mod PlotLemmas
+pub mod UnitLemmas
