@@ -3,7 +3,7 @@ use Rattle.std.specs.Prelude.{◌≡◌, ◌⊎◌, List, [], ◌∷◌, ◌++�
 use Rattle.clap.specs.Words.{Row, Text}
 use Rattle.lot_args.specs.Words.{bad_of, misplaced_in, missing_in}
 use Rattle.lot_args.specs.declared.fault.WordsFault.{WordsFault}
-use Rattle.lot_args.specs.declared.fault.WordsFault.TheVariants.{BadValue, Memory, Misplaced, MissingOptions, Unmatched, Usage}
+use Rattle.lot_args.specs.declared.fault.WordsFault.TheVariants.{BadValue, Memory, Misplaced, MissingOptions, Usage}
 
 -- the word is one of the names
 abbrev pub IsOneOf : List Text → Text → Type 0
@@ -14,8 +14,7 @@ IsOneOf (name ∷ names) word = (word ≡ name) ⊎ IsOneOf names word
 abbrev pub book_words : List Text
 book_words =
     codes "init" ∷ codes "migrate" ∷ codes "post" ∷ codes "import" ∷ codes "holdings" ∷ codes "gains" ∷ codes "register"
-    ∷ codes "activity" ∷ codes "journal" ∷ codes "page" ∷ codes "dump" ∷ codes "reconcile" ∷ codes "restore"
-    ∷ codes "verify" ∷ []
+    ∷ codes "activity" ∷ codes "journal" ∷ codes "dump" ∷ codes "reconcile" ∷ codes "restore" ∷ codes "verify" ∷ []
 
 -- there is such a word on a book
 abbrev pub IsBookWord : Text → Type 0
@@ -35,6 +34,5 @@ JudgesOptions before asked (Err (MissingOptions needed)) = (misplaced_in before 
 JudgesOptions before asked (Err (BadValue bad)) =
     (misplaced_in before asked ≡ None) × (missing_in asked ≡ None) × (bad_of before asked ≡ Some bad)
 JudgesOptions before asked (Err (Usage error)) = ⊥
-JudgesOptions before asked (Err Unmatched) = ⊥
 JudgesOptions before asked (Err Memory) =
     (misplaced_in before asked ≡ None) × (missing_in asked ≡ None) × (bad_of before asked ≡ None)

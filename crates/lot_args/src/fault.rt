@@ -143,9 +143,7 @@ pub enum WordsFault {
     MissingOptions(Needed),
     /// The value of the option is outside its rule.
     BadValue(BadOption),
-    /// Out of memory, before `clap` has matched the arguments.
-    Unmatched,
-    /// Out of memory, though `clap` accepts the arguments, and no option is misplaced, missing or has a value outside its rule.
+    /// Out of memory.
     Memory,
 }
 
@@ -166,7 +164,7 @@ impl From<Error> for WordsFault {
 
     fn from(error: Error) -> WordsFault {
         match error.kind() {
-            ErrorKind::OutOfMemory => WordsFault::Unmatched,
+            ErrorKind::OutOfMemory => WordsFault::Memory,
             _ => WordsFault::Usage(error),
         }
     }

@@ -1,13 +1,13 @@
-ghost use Rattle.std.specs.Prelude.{◌≡◌, ◌≢◌, codes, false, true, Err, IfErr, IfOk, None, Some, map};
+ghost use Rattle.std.specs.Prelude.{◌≡◌, ◌≢◌, codes, false, true, Err, IfOk, None, Some, map};
 ghost use Rattle.std.specs.String.{string_bytes};
-ghost use Rattle.clap.specs.Words.{IsAmong, app_of, fault_of, found_of, kind_of, rows_of, takes};
+ghost use Rattle.clap.specs.Words.{IsAmong, fault_of, found_of, kind_of, rows_of, takes};
 ghost use Rattle.clap.specs.declared.error.ErrorKind.TheVariants.{OutOfMemory};
-ghost use Rattle.lot_args.specs.Options.{first_bad, has_profile, is_shown, options_of, value_of};
+ghost use Rattle.lot_args.specs.Options.{first_bad, has_profile, is_shown, options_of};
 ghost use Rattle.lot_args.specs.declared.fault.Needed.{Needed};
 ghost use Rattle.lot_args.specs.Program.{program_app};
 ghost use Rattle.lot_args.specs.Steps.{IsBookWord, IsWord, JudgesOptions};
-ghost use Rattle.lot_args.specs.Words.{Ask, AskFor, HaveBadIn, HaveMisplaced, HaveNoneBad, LackSome, WordAsks, WordRequests};
-ghost use Rattle.lot_args.specs.Words.{AsksForReport, AsksToImport, file_name};
+ghost use Rattle.lot_args.specs.Words.{Ask, AskFor, HaveBadIn, HaveMisplaced, LackSome, WordAsks, WordRequests};
+ghost use Rattle.lot_args.specs.Words.{AsksForReport, AsksToImport};
 ghost use Rattle.lot_args.specs.declared.fault.WordsFault.TheVariants.{BadValue, Misplaced, MissingOptions, Usage};
 
 use crate::action::{Action, AskedImport, Import, Post, Reconcile, Report, Restore};
@@ -21,7 +21,7 @@ use crate::values::{
     rounding_options, saying, strictness, text, tolerance, value,
 };
 use crate::without::without;
-use clap::{ArgMatches, Command};
+use clap::ArgMatches;
 use std::alloc::{AllocError, Global};
 
 /// Returns what the arguments ask for. The first argument is the program's name. Without a subcommand, they ask for a check.
@@ -34,8 +34,7 @@ use std::alloc::{AllocError, Global};
 /// - `MissingOptions`: none does, but an option isn't given that the call needs;
 /// - `BadValue`: none is missing, but the value of an option is outside its rule, or options stand together that can't. Of several
 ///   such options it is the first in that order;
-/// - `Unmatched`: out of memory, before `clap` has matched the arguments;
-/// - `Memory`: out of memory, where there is none of these.
+/// - `Memory`: out of memory, before `clap` has accepted the arguments, or where all values are within their rules.
 pub fn parse_words(alloc: Global, words: &[String]) -> Result<Request, WordsFault>
     ensures request { IfOk result (AskFor (map string_bytes words.now)) }
     ensures misplaced { (option : BadOption) → result ≡ Err (Misplaced option)
@@ -44,28 +43,16 @@ pub fn parse_words(alloc: Global, words: &[String]) -> Result<Request, WordsFaul
         → LackSome (map string_bytes words.now) needed }
     ensures bad { (bad : BadOption) → result ≡ Err (BadValue bad)
         → HaveBadIn (map string_bytes words.now) bad }
-    ensures lacking { result ≡ Err WordsFault.Memory → HaveNoneBad (map string_bytes words.now) }
     ensures kind { (error : _) → result ≡ Err (Usage error)
         → IsAmong (kind_of error) (fault_of program_app (map string_bytes words.now)) }
     ensures memory { (error : _) → result ≡ Err (Usage error) → kind_of error ≢ OutOfMemory }
     ensures taken { takes program_app (map string_bytes words.now) ≡ true → (error : _)
         → result ≢ Err (Usage error) }
 {
-    let matches = matcher(alloc)?.try_get_matches_from(words)?;
+    let matches = program(alloc)?.try_get_matches_from(words)?;
     match matches.subcommand() {
         None => checked(alloc, &matches),
         Some((word, options)) => asked(alloc, &matches, word, options),
-    }
-}
-
-/// Returns the program with its subcommands and options. The only error is `Unmatched`.
-fn matcher<'a>(alloc: Global) -> Result<Command<'a>, WordsFault>
-    ensures program { IfOk result (λ command. app_of command ≡ program_app) }
-    ensures cause { IfErr result (λ fault. fault ≡ WordsFault.Unmatched) }
-{
-    match program(alloc) {
-        Ok(command) => Ok(command),
-        Err(_) => Err(WordsFault::Unmatched),
     }
 }
 
@@ -238,10 +225,6 @@ fn action(alloc: Global, word: &str, options: &ArgMatches<'_>) -> Result<Action,
             book,
             report: Report::Journal,
         }),
-        "page" => Ok(Action::Report {
-            report: page(alloc, book.as_str(), options)?,
-            book,
-        }),
         "dump" => Ok(Action::Report {
             book,
             report: Report::Dump,
@@ -319,30 +302,6 @@ fn register(alloc: Global, options: &ArgMatches<'_>) -> Result<Report, AllocErro
         last: day(options, BadOption::Last),
         format: format(options),
     })
-}
-
-/// Returns the page that `page` asks for of the book of that path. The only error is out of memory.
-fn page(alloc: Global, path: &str, options: &ArgMatches<'_>) -> Result<Report, AllocError>
-    requires { path.now ≡ value_of (codes "book") (rows_of (found_of options.now)) }
-    ensures { IfOk result (AsksForReport (codes "page") (rows_of (found_of options.now))) }
-{
-    Ok(Report::Page {
-        name: String::from_str(alloc, file_name(path))?,
-        first: day(options, BadOption::First),
-        last: day(options, BadOption::Last),
-        day: day(options, BadOption::Day),
-        saying: saying(options),
-    })
-}
-
-/// Returns what stands behind the last slash of a path, or all of it where there is none.
-fn file_name(path: &str) -> &str
-    ensures { result.now ≡ file_name path.now }
-{
-    match path.rsplit_once('/') {
-        Some((_, name)) => name,
-        None => path,
-    }
 }
 
 /// Returns the report that `activity` asks for. The only error is out of memory.

@@ -1,5 +1,5 @@
 -- With which status a comparison ends, and a call whose book isn't taken up.
-use Rattle.std.specs.Prelude.{◌≡◌, if◌then◌else◌, ℕ, List, Bool, true, false, not, IsTrue, Option, Result, Ok, Err}
+use Rattle.std.specs.Prelude.{◌≡◌, ℕ, List, Bool, true, false, not, Option, Result, Ok, Err}
 use Rattle.std.proofs.Common.{inl, inr, refl, sym, ◌∙◌}
 use Rattle.std.proofs.lemmas.Bool.{true≢false}
 use Rattle.lot_cli.specs.Differ.{EndsCompared, EndsWithFault}
@@ -11,7 +11,6 @@ use Rattle.lot_io.specs.Writes.{WritesMade}
 use Rattle.lot_stream.specs.Status.{code_of}
 use Rattle.lot_stream.specs.declared.status.Status.{Status}
 use Rattle.lot_stream.specs.declared.status.Status.TheVariants.{Stopped}
-use Rattle.lotbook.specs.Answered.{IsHandedOn}
 use Rattle.lotbook.specs.Statuses.{IsStatusBeside}
 
 -- what says that it stopped ends so, whether it could be written or not
@@ -32,19 +31,6 @@ ends_compared (Ok done) status mid written calls code end same (inl said) = inl 
 ends_compared (Ok done) status mid written calls code end same (inr cut) = inr cut.0
 ends_compared (Err fault) status mid written calls code end same ends =
     inr (ends_faulty (is_of_writer fault) fault mid written calls end ends)
-
--- a call that handed on all that it wrote ends with its own status, else it is stopped
-pub is_handed_on : (all : Bool) (end status : ℕ) (told written : Option (List ℕ)) → status ≡ (if all then end else stopped) → (IsTrue all → written ≡ told)
-    → IsHandedOn end told status written
-is_handed_on true end status told written ends same = inl (ends, same refl)
-is_handed_on false end status told written ends same = inr ends
-
--- what ends beside a status does so where not all was handed on, too
-pub handed_on_beside : (served end status : ℕ) (told written : Option (List ℕ)) → IsHandedOn end told status written → IsStatusBeside served end
-    → IsStatusBeside served status
-handed_on_beside served end status told written (inl all) (inl same) = inl (all.0 ∙ same)
-handed_on_beside served end status told written (inl all) (inr cut) = inr (all.0 ∙ cut)
-handed_on_beside served end status told written (inr cut) ends = inr cut
 
 -- a connection that commits by itself is in no transaction
 pub is_inside : (alone inside : Bool) → alone ≡ false → alone ≡ not inside → inside ≡ true

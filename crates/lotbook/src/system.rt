@@ -3,7 +3,7 @@
 ghost use Rattle.std.specs.Prelude.{◌≡◌, false};
 ghost use Rattle.sqlite.specs.Files.{file_state, over_files};
 ghost use Rattle.lot_args.specs.Preview.{preview_of};
-ghost use Rattle.lotbook.specs.Answered.{AnswersOnSome};
+ghost use Rattle.lotbook.specs.Answered.{IsAnswered};
 ghost use Rattle.lotbook.specs.Compared.{IsCompared, IsRefused, IsTakenUp, unlimited};
 ghost use Rattle.lotbook.specs.Shown.{IsExportShown};
 ghost use Rattle.lotbook.specs.Statuses.{IsRefusal, IsSaid};
@@ -11,7 +11,7 @@ ghost use Rattle.lot_files.specs.Opened.{IsOverMemory, IsOverSystem, IsReady};
 ghost use Rattle.lot_files.specs.Path.{has_long_name};
 ghost use Rattle.lot_host.specs.Answers.{IsTold, stopped};
 
-use crate::answer::answer_on_streams;
+use crate::answer::answer;
 use crate::comparison::{show_differences, take_up};
 use crate::showing::show_on;
 use lot_args::{Notes, Request, WordsFault};
@@ -19,6 +19,7 @@ use lot_call::{
     Call, Loaded, PlainFault, load, out_of_memory, say_why, say_words_fault, tell, warn,
     write_fault,
 };
+use lot_cli::Served;
 use lot_files::{
     Access, Cause, Database, Failure, Opened, ensure_openable, is_missing, library_path, open_book,
     open_nothing,
@@ -99,7 +100,7 @@ impl<'a> Host for System<'a> {
     ghost tells_unopened = { λ _ status. status ≡ stopped };
 
     ghost serves = { λ action effect opened status left.
-        AnswersOnSome (λ conn. file_state conn) action (preview_of effect)
+        IsAnswered (λ conn. file_state conn) action (preview_of effect)
         opened.conn left.conn status };
 
     ghost is_old = { λ opened old. IsTakenUp over_files (unlimited opened.conn) old.conn };
@@ -147,7 +148,11 @@ impl<'a> Host for System<'a> {
             begun: self.begun,
             failure: self.failure,
         };
-        let (status, conn) = answer_on_streams(&call, database.conn);
+        let Served {
+            status,
+            halt: _,
+            conn,
+        } = answer(&call, database.conn);
         if status == UNUSABLE {
             let _ = eprintln!(self.rt; "lotbook: --row-of wants a text of one command");
         }

@@ -1,17 +1,11 @@
-use Rattle.std.specs.Io.Buffered.{writer_contents}
-use Rattle.lot_io.specs.Reader.{counts_of}
-use Rattle.lot_io.specs.Writer.{calls_of, writer_of}
-use Rattle.lotbook.proofs.EndLemmas.{is_handed_on}
 use Rattle.lotbook.proofs.showing.show_to.Goals as goal
 
 pub returns : goal.returns
 returns g c = record {
-  rest = _;
-  read = counts_of c.show-shown.new.reader.reader;
-  text = writer_contents g.W.Write.contents (writer_of c.show-shown.new.writer).writer.buffer;
-  wrote = calls_of c.show-shown.new.writer;
-  end = c.show-shown.result.status;
-  halt = c.show-shown.result.halt;
-  shows = rw (c.new-reader.ensures.reader, c.new-reader.ensures.counts, c.new-writer.ensures.writer, c.new.ensures, c.new-writer.ensures.calls) at c.show-shown.ensures.shows;
-  handed_on = is_handed_on _ _ _ _ _ c.status_behind.ensures (rw (c.into_parts-output.ensures.writer, c.into_writer.ensures) at c.end-writer.ensures.whole);
+  input = _;
+  before = g.W.CountedWrite.contents c.args.writer.now;
+  written = g.W.CountedWrite.contents c.show.new.writer;
+  calls = record { before = g.W.CountedWrite.calls c.args.writer.now; after = g.W.CountedWrite.calls c.show.new.writer };
+  halt = c.show.result.halt;
+  shows = c.show.ensures.shows;
 }

@@ -1,6 +1,0 @@
-mod AppendLemmas
-mod BalanceLemmas
-mod CellLemmas
-mod EntryLemmas
-mod PlainLemmas
-mod SaleLemmas

@@ -1,3 +1,0 @@
-mod CharLemmas
-mod DigitLemmas
-mod LawLemmas

@@ -1,4 +1,0 @@
-pub mod Page
-pub mod Parts
-pub mod Sections
-pub mod Text

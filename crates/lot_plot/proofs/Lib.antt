@@ -1,4 +1,0 @@
-pub mod GridLemmas
-pub mod PieceLemmas
-pub mod PlotLemmas
-pub mod UnitLemmas
