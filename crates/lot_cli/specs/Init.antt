@@ -22,8 +22,8 @@ pub record IsMade (old new : State) : Type 0 where
   pub empty : old.now.schema ≡ schema_of []
   pub crash : Survives old new (LeavesNew old)
 
--- none is made, for what the fault says, and the database is handed back as it was; only after a commit that failed may a crash
--- leave one
+-- none is made, for what the fault says, and the database is handed back as it was; a crash may leave one only where the commit
+-- failed, or memory ended
 pub record IsNotMade (old new : State) (fault : CreateFault) : Type 0 where
   pub refused : HasCleanDisk new → RefusedFor old new fault
   pub other : old.now.schema ≢ schema_of [] → fault ≡ NotABook
