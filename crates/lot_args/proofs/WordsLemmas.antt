@@ -22,7 +22,7 @@ use Rattle.lot_args.specs.Words.{Ask, bad_of, misplaced_in, missing_in}
 use Rattle.lot_args.specs.declared.fault.BadOption.{BadOption}
 use Rattle.lot_args.specs.declared.fault.Needed.{Needed}
 use Rattle.lot_args.specs.declared.fault.WordsFault.{WordsFault}
-use Rattle.lot_args.specs.declared.fault.WordsFault.TheVariants.{BadValue, Memory, Misplaced, MissingOptions, Usage}
+use Rattle.lot_args.specs.declared.fault.WordsFault.TheVariants.{BadValue, Memory, Misplaced, MissingOptions, Unmatched, Usage}
 use Rattle.lot_args.specs.declared.request.Request.{Request}
 
 -- a text that is there, or else the empty one
@@ -125,6 +125,14 @@ bad_words asked o faults read before r bad met none same judged e =
     let told = subst (λ (r : Result Request WordsFault). JudgesOptions read asked r) e judged in
     rw (met, ← same) (none, told.0, told.1, told.2)
 
+-- memory that ended where nothing is bad
+pub none_bad : (asked o : Option (Text × List Row)) (faults : Kinds) (read before : List Row) (r : Result Request WordsFault)
+    → o ≡ asked → faults ≡ [] → read ≡ before → JudgesOptions read asked r → r ≡ Err Memory
+    → (faults ≡ []) × (misplaced_in before o ≡ None) × (missing_in o ≡ None) × (bad_of before o ≡ None)
+none_bad asked o faults read before r met none same judged e =
+    let told = subst (λ (r : Result Request WordsFault). JudgesOptions read asked r) e judged in
+    rw (met, ← same) (none, told.0, told.1, told.2)
+
 -- ---- errors of `clap`
 
 -- an error of `clap` that is out of memory is told as that
@@ -135,7 +143,8 @@ no_usage error (Err (Usage other)) refused memory told e = refused.1 memory
 no_usage error (Err (BadValue bad)) refused memory told e = absurd refused
 no_usage error (Err (Misplaced option)) refused memory told e = absurd refused
 no_usage error (Err (MissingOptions needed)) refused memory told e = absurd refused
-no_usage error (Err Memory) refused memory told e = cc
+no_usage error (Err Unmatched) refused memory told e = cc
+no_usage error (Err Memory) refused memory told e = absurd refused
 
 -- of which kind the error is that is told
 pub kind_told : (error : Error) (r : Result Request WordsFault) (known kinds : Kinds) → IsErrAnd r (Refuses error) → HasKind known error → known ≡ kinds
@@ -144,7 +153,8 @@ kind_told error (Ok request) known kinds refused has is told e = cc
 kind_told error (Err (BadValue bad)) known kinds refused has is told e = absurd refused
 kind_told error (Err (Misplaced option)) known kinds refused has is told e = absurd refused
 kind_told error (Err (MissingOptions needed)) known kinds refused has is told e = absurd refused
-kind_told error (Err Memory) known kinds refused has is told e = cc
+kind_told error (Err Unmatched) known kinds refused has is told e = cc
+kind_told error (Err Memory) known kinds refused has is told e = absurd refused
 kind_told error (Err (Usage other)) known kinds refused has is told e =
     let same : error ≡ told = let one : other ≡ told = cc in sym refused.0 ∙ one in
     let Kind : Error → Type 0 = λ x. IsAmong (kind_of x) known in

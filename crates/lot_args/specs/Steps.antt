@@ -3,7 +3,7 @@ use Rattle.std.specs.Prelude.{◌≡◌, ◌⊎◌, List, [], ◌∷◌, ◌++�
 use Rattle.clap.specs.Words.{Row, Text}
 use Rattle.lot_args.specs.Words.{bad_of, misplaced_in, missing_in}
 use Rattle.lot_args.specs.declared.fault.WordsFault.{WordsFault}
-use Rattle.lot_args.specs.declared.fault.WordsFault.TheVariants.{BadValue, Memory, Misplaced, MissingOptions, Usage}
+use Rattle.lot_args.specs.declared.fault.WordsFault.TheVariants.{BadValue, Memory, Misplaced, MissingOptions, Unmatched, Usage}
 
 -- the word is one of the names
 abbrev pub IsOneOf : List Text → Text → Type 0
@@ -34,5 +34,6 @@ JudgesOptions before asked (Err (MissingOptions needed)) = (misplaced_in before 
 JudgesOptions before asked (Err (BadValue bad)) =
     (misplaced_in before asked ≡ None) × (missing_in asked ≡ None) × (bad_of before asked ≡ Some bad)
 JudgesOptions before asked (Err (Usage error)) = ⊥
+JudgesOptions before asked (Err Unmatched) = ⊥
 JudgesOptions before asked (Err Memory) =
     (misplaced_in before asked ≡ None) × (missing_in asked ≡ None) × (bad_of before asked ≡ None)

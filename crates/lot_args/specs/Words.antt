@@ -261,3 +261,9 @@ abbrev pub HaveBadIn : List Text → BadOption → Type 0
 HaveBadIn words bad =
     (fault_of program_app words ≡ []) × (misplaced_by words ≡ None)
     × (missing_by words ≡ None) × (bad_by words ≡ Some bad)
+
+-- `clap` takes the words, no option is misplaced, none is missing, and no value is outside its rule
+abbrev pub HaveNoneBad : List Text → Type 0
+HaveNoneBad words =
+    (fault_of program_app words ≡ []) × (misplaced_by words ≡ None)
+    × (missing_by words ≡ None) × (bad_by words ≡ None)

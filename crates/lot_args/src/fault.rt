@@ -143,7 +143,9 @@ pub enum WordsFault {
     MissingOptions(Needed),
     /// The value of the option is outside its rule.
     BadValue(BadOption),
-    /// Out of memory.
+    /// Out of memory, before `clap` has matched the arguments.
+    Unmatched,
+    /// Out of memory, though `clap` accepts the arguments, and no option is misplaced, missing or has a value outside its rule.
     Memory,
 }
 
@@ -164,7 +166,7 @@ impl From<Error> for WordsFault {
 
     fn from(error: Error) -> WordsFault {
         match error.kind() {
-            ErrorKind::OutOfMemory => WordsFault::Memory,
+            ErrorKind::OutOfMemory => WordsFault::Unmatched,
             _ => WordsFault::Usage(error),
         }
     }

@@ -1,12 +1,12 @@
-ghost use Rattle.std.specs.Prelude.{◌≡◌, ◌≢◌, codes, false, true, Err, IfOk, None, Some, map};
+ghost use Rattle.std.specs.Prelude.{◌≡◌, ◌≢◌, codes, false, true, Err, IfErr, IfOk, None, Some, map};
 ghost use Rattle.std.specs.String.{string_bytes};
-ghost use Rattle.clap.specs.Words.{IsAmong, fault_of, found_of, kind_of, rows_of, takes};
+ghost use Rattle.clap.specs.Words.{IsAmong, app_of, fault_of, found_of, kind_of, rows_of, takes};
 ghost use Rattle.clap.specs.declared.error.ErrorKind.TheVariants.{OutOfMemory};
 ghost use Rattle.lot_args.specs.Options.{first_bad, has_profile, is_shown, options_of};
 ghost use Rattle.lot_args.specs.declared.fault.Needed.{Needed};
 ghost use Rattle.lot_args.specs.Program.{program_app};
 ghost use Rattle.lot_args.specs.Steps.{IsBookWord, IsWord, JudgesOptions};
-ghost use Rattle.lot_args.specs.Words.{Ask, AskFor, HaveBadIn, HaveMisplaced, LackSome, WordAsks, WordRequests};
+ghost use Rattle.lot_args.specs.Words.{Ask, AskFor, HaveBadIn, HaveMisplaced, HaveNoneBad, LackSome, WordAsks, WordRequests};
 ghost use Rattle.lot_args.specs.Words.{AsksForReport, AsksToImport};
 ghost use Rattle.lot_args.specs.declared.fault.WordsFault.TheVariants.{BadValue, Misplaced, MissingOptions, Usage};
 
@@ -21,7 +21,7 @@ use crate::values::{
     rounding_options, saying, strictness, text, tolerance, value,
 };
 use crate::without::without;
-use clap::ArgMatches;
+use clap::{ArgMatches, Command};
 use std::alloc::{AllocError, Global};
 
 /// Returns what the arguments ask for. The first argument is the program's name. Without a subcommand, they ask for a check.
@@ -34,7 +34,8 @@ use std::alloc::{AllocError, Global};
 /// - `MissingOptions`: none does, but an option isn't given that the call needs;
 /// - `BadValue`: none is missing, but the value of an option is outside its rule, or options stand together that can't. Of several
 ///   such options it is the first in that order;
-/// - `Memory`: out of memory, before `clap` has accepted the arguments, or where all values are within their rules.
+/// - `Unmatched`: out of memory, before `clap` has matched the arguments;
+/// - `Memory`: out of memory, where there is none of these.
 pub fn parse_words(alloc: Global, words: &[String]) -> Result<Request, WordsFault>
     ensures request { IfOk result (AskFor (map string_bytes words.now)) }
     ensures misplaced { (option : BadOption) → result ≡ Err (Misplaced option)
@@ -43,16 +44,28 @@ pub fn parse_words(alloc: Global, words: &[String]) -> Result<Request, WordsFaul
         → LackSome (map string_bytes words.now) needed }
     ensures bad { (bad : BadOption) → result ≡ Err (BadValue bad)
         → HaveBadIn (map string_bytes words.now) bad }
+    ensures lacking { result ≡ Err WordsFault.Memory → HaveNoneBad (map string_bytes words.now) }
     ensures kind { (error : _) → result ≡ Err (Usage error)
         → IsAmong (kind_of error) (fault_of program_app (map string_bytes words.now)) }
     ensures memory { (error : _) → result ≡ Err (Usage error) → kind_of error ≢ OutOfMemory }
     ensures taken { takes program_app (map string_bytes words.now) ≡ true → (error : _)
         → result ≢ Err (Usage error) }
 {
-    let matches = program(alloc)?.try_get_matches_from(words)?;
+    let matches = matcher(alloc)?.try_get_matches_from(words)?;
     match matches.subcommand() {
         None => checked(alloc, &matches),
         Some((word, options)) => asked(alloc, &matches, word, options),
+    }
+}
+
+/// Returns the program with its subcommands and options. The only error is `Unmatched`.
+fn matcher<'a>(alloc: Global) -> Result<Command<'a>, WordsFault>
+    ensures program { IfOk result (λ command. app_of command ≡ program_app) }
+    ensures cause { IfErr result (λ fault. fault ≡ WordsFault.Unmatched) }
+{
+    match program(alloc) {
+        Ok(command) => Ok(command),
+        Err(_) => Err(WordsFault::Unmatched),
     }
 }
 

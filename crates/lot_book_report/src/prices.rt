@@ -1,13 +1,13 @@
 ghost use Rattle.std.specs.Prelude.{◌≡◌, ◌&&◌, if◌then◌else◌, ℕ, IfErr, IfOk, List, OnOk, Some};
 ghost use Rattle.lot_base.specs.Text.{same_text};
-ghost use Rattle.lot_book_report.specs.Holdings.{KeepsPrices, KeepsRowPrices, kept, rate_in, valuation_at};
+ghost use Rattle.lot_book_report.specs.Holdings.{KeepsPrices, KeepsRowPrices, kept, rate_in, valuation_at, valued_with};
 ghost use Rattle.lot_book_report.specs.Show.{HoldsOfBook, HoldsOfTables, IsOfBook, ReadsBook};
 
 use crate::fault::ShowFault;
 use lot_base::{Commodity, Day};
 use lot_book::Holding;
 use lot_num::Rate;
-use lot_report::Valuation;
+use lot_report::{Valuation, ValuedHolding};
 use lot_store::{Book, PairPrice, StoreFault};
 use sqlite::Alter;
 use std::alloc::{AllocError, Global};
@@ -44,6 +44,14 @@ impl DayPrices {
         }
         // No book has so many prices.
         Err(ShowFault::from(StoreFault::Memory))
+    }
+
+    /// Returns a holding with its valuation.
+    pub fn valued(&self, holding: Holding) -> ValuedHolding
+        ensures { result ≡ valued_with (Some self.now) holding }
+    {
+        let valuation = self.valuation(&holding);
+        ValuedHolding { holding, valuation }
     }
 
     /// Returns the valuation of a holding. A lot is valued at the price of its commodity in the currency of its cost.

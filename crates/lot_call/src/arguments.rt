@@ -117,7 +117,7 @@ pub fn say_words_fault(rt: &HostRuntime, words: &[String], fault: &WordsFault) -
             show_form(rt, words, *option);
             UNUSABLE
         }
-        WordsFault::Memory => out_of_memory(rt),
+        WordsFault::Unmatched | WordsFault::Memory => out_of_memory(rt),
     }
 }
 

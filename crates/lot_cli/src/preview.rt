@@ -58,6 +58,8 @@ pub fn serve_with_preview<
         preview conn (W.contents writer.old) (W.calls writer.old)
         (outcome result.conn (W.contents writer.new) (W.calls writer.new)
         (told result.status result.halt)) }
+    ensures outside { HasCleanDisk (state S.Store result.conn)
+        → result.conn.in_transaction ≡ false }
     ensures status { EndsWith action.now result.status }
 {
     match preview {
@@ -190,6 +192,8 @@ fn tell_holdings<W: CountedWrite, S: Alter>(
         (told answered.status answered.halt))
         (outcome result.conn (W.contents writer.new) (W.calls writer.new)
         (told result.status result.halt)) }
+    ensures outside { HasCleanDisk (state S.Store result.conn)
+        → result.conn.in_transaction ≡ false }
     ensures status { (result.status ≡ answered.status) ⊎ IsStatus result.status }
 {
     let report = Report::Holdings {

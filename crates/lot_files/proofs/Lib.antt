@@ -1,3 +1,4 @@
 pub mod CopyLemmas
 pub mod MediumLemmas
 pub mod OpenLemmas
+pub mod OpenerLemmas

@@ -1,10 +1,14 @@
 -- A copy of the files of a book: what its source gave, one call after another. For private contracts alone.
 use Rattle.std.specs.Prelude.{◌≡◌, ◌≢◌, ◌⊎◌, ℕ, zero, suc, Ok, Err}
+use Rattle.std.specs.String.{string_bytes}
 use Rattle.sqlite_disk.specs.declared.files.Files.{Files}
+use Rattle.lot_files.specs.BookFiles.{GivesFile, GivesStamp}
 use Rattle.lot_files.specs.Image.{held}
 use Rattle.lot_files.specs.declared.cause.Cause.{Cause}
 use Rattle.lot_files.specs.declared.cause.Cause.TheVariants.{InUse}
+use Rattle.lot_files.specs.declared.file_system.FileSystem.{Ghosts as SystemGhosts}
 use Rattle.lot_files.specs.declared.image.Image.{Image}
+use Rattle.lot_files.specs.declared.source.BookFiles.{BookFiles}
 use Rattle.lot_files.specs.declared.source.Source.{Ghosts}
 use Rattle.lot_files.specs.declared.source.Stamp.{Stamp}
 
@@ -38,3 +42,12 @@ module _ {S : Type 0} (g : Ghosts S) where
   -- there is no copy: each try was for nothing, or a call failed
   abbrev pub IsUncopied : ℕ → S → Cause → S → Type 0
   IsUncopied tries old cause new = ((cause ≡ InUse) × AreTorn tries old new) ⊎ IsFailed cause new
+
+-- the files of a book in a file system are read to be copied, which leaves them as they are
+abbrev pub reads_files : {S : Type 0} → SystemGhosts S → Ghosts (BookFiles S)
+reads_files g = record {
+  stamps = λ s answer left. (left ≡ s)
+      × GivesStamp g s.fs.now (string_bytes s.located.now.book) (string_bytes s.located.now.log) answer;
+  reads_book = λ s answer left. (left ≡ s) × GivesFile g s.fs.now (string_bytes s.located.now.book) answer;
+  reads_log = λ s answer left. (left ≡ s) × GivesFile g s.fs.now (string_bytes s.located.now.log) answer;
+}

@@ -1,10 +1,11 @@
 -- What a file in memory holds.
-use Rattle.std.specs.Prelude.{List, [], ℕ, Result, Ok, Err}
+use Rattle.std.specs.Prelude.{◌≡◌, List, [], ℕ, Result, Ok, Err}
 use Rattle.std.specs.IoError.{error_kind}
 use Rattle.std.specs.declared.io.Error.{Error as SystemError}
 use Rattle.std.specs.declared.io.ErrorKind.{ErrorKind}
 use Rattle.std.specs.declared.io.ErrorKind.TheVariants as kind
 use Rattle.std.specs.declared.vec.Vec.{Vec}
+use Rattle.sqlite_disk.specs.declared.files.Files.{Files}
 use Rattle.lot_files.specs.Cause.{system_cause}
 use Rattle.lot_files.specs.Entry.{bytes_in}
 use Rattle.lot_files.specs.declared.cause.Cause.{Cause}
@@ -14,7 +15,11 @@ use Rattle.lot_files.specs.declared.image.Image.{Image}
 abbrev pub held : Image → List ℕ
 held image = image.bytes.items
 
--- the same of a copy that was made, or why there is none
+-- two files in memory hold nothing
+abbrev pub HoldNothing : Files Image → Type 0
+HoldNothing files = (held files.log ≡ []) × (held files.db ≡ [])
+
+-- the bytes of a copy that was made, or why there is none
 abbrev pub held_by : Result Image Cause → Result (List ℕ) Cause
 held_by (Ok image) = Ok (held image)
 held_by (Err cause) = Err cause

@@ -7,6 +7,8 @@ pub mod Medium
 pub mod Noted
 pub mod Opened
 pub mod Opener
+pub mod Opening
 pub mod Path
 pub mod Refusal
 pub mod Shown
+pub mod System

@@ -9,7 +9,7 @@ module _ {A B : Type 0} where
   either system memory (System file) = system file
   either system memory (Memory file) = memory file
 
-  abbrev IsOfSystem : Medium A B → Type 0
+  abbrev pub IsOfSystem : Medium A B → Type 0
   IsOfSystem (System file) = Unit {0}
   IsOfSystem (Memory file) = ⊥
 

@@ -8,7 +8,7 @@ use Rattle.std.specs.declared.io.Error.{Error as SystemError}
 use Rattle.sqlite.specs.declared.error.Error.{Error}
 use Rattle.sqlite.specs.declared.error.ErrorCode.TheVariants as code
 use Rattle.lot_files.specs.Cause.{cause_or, library_cause, system_cause}
-use Rattle.lot_files.specs.Noted.{TellsKept}
+use Rattle.lot_files.specs.Noted.{IsKept, TellsKept}
 use Rattle.lot_files.specs.Shown.{IsRefused, LeadsToBook, ShowsMissing}
 use Rattle.lot_files.specs.declared.cause.Cause.{Cause}
 use Rattle.lot_files.specs.declared.cause.Cause.TheVariants.{Library}
@@ -87,8 +87,16 @@ module _ {S : Type 0} (g : Ghosts S) (fs : S) where
         ((says_no_more (library_cause error) ≡ false) × (cause ≡ library_cause error))
         ⊎ ((says_no_more (library_cause error) ≡ true) × IsRefusal path cause)
 
+  -- the same over files that keep why a call of them failed, where one did
+  pub record IsWhyKept (path : List ℕ) (error : Error) (cause : Cause) : Type 0 where
+    pub said : Cause
+    pub kept : Option Cause
+    pub is_why : IsWhy path error said
+    pub is_kept : IsKept kept
+    pub told : cause ≡ cause_or said kept
+
 module _ {S K : Type 0} (g : Ghosts S) (k : KeeperGhosts K) (fs : S) (keeper : K) where
-  -- the same over files that keep why a call of them failed
+  -- the same over files that keep it there
   pub record IsWhyOver (path : List ℕ) (error : Error) (cause : Cause) : Type 0 where
     pub said : Cause
     pub kept : Option Cause

@@ -1,16 +1,13 @@
 //! A copy in memory of a book: of its file and its log, which are opened for reading alone.
 
-ghost use Rattle.std.specs.Prelude.{◌≡◌, ◌⊎◌, IfErr, IfOk};
-ghost use Rattle.sqlite.specs.Files.{Finds, file_state};
-ghost use Rattle.sqlite.specs.State.{HasCleanDisk};
-ghost use Rattle.sqlite_disk.specs.declared.files.Files.{Files as FilesOf};
-ghost use Rattle.lot_files.specs.Cause.{IsOfCopy};
+ghost use Rattle.std.specs.Prelude.{◌≡◌, IfErr, IfOk};
 ghost use Rattle.lot_files.specs.Copy.{IsCopied, IsUncopied};
-ghost use Rattle.lot_files.specs.Image.{copy_of, held_by};
-ghost use Rattle.lot_files.specs.Medium.{in_memory};
+ghost use Rattle.lot_files.specs.Image.{HoldNothing, copy_of, held_by};
 ghost use Rattle.lot_files.specs.Opened.{IsOverMemory, IsReady};
+ghost use Rattle.lot_files.specs.Opening.{OpensCopied, OpensCopyAt, OpensCopyOf, OpensImages};
+ghost use Rattle.lot_files.specs.Opening.{OpensNothing};
 ghost use Rattle.lot_files.specs.Shown.{IsOriginal, ShowsNothing};
-ghost use Rattle.lot_files.specs.declared.image.Image.{Image as ImageOf};
+ghost use Rattle.lot_files.specs.declared.opened.Database.{Database as DatabaseOf};
 
 use crate::cause::Cause;
 use crate::file_system::FileSystem;
@@ -36,33 +33,42 @@ const FEW: usize = 16;
 
 /// Opens a copy of the database in the file of that path. A file that isn't there is copied as an
 /// empty one. Nothing is written but the copy, which is in memory.
-pub(crate) fn open_copy<'a>(rt: &HostRuntime, path: &str) -> Result<Database<'a>, Cause>
+pub(crate) fn open_copy<'a, F: FileSystem>(
+    fs: &F,
+    alloc: Global,
+    path: &str,
+) -> Result<Database<'a>, Cause>
     ensures ready { IfOk result (λ database. IsReady database.conn) }
     ensures over { IfOk result (λ database. IsOverMemory database.conn) }
+    ensures opens { OpensCopyAt (λ (database : DatabaseOf). database.conn) F.FileSystem
+        fs.now path.now result }
 {
-    match original(rt, rt.alloc(), path)? {
-        Some(located) => open_copy_of(rt, &located),
-        None => open_nothing(rt.alloc()),
+    match original(fs, alloc, path)? {
+        Some(located) => open_copy_of(fs, alloc, &located),
+        None => open_nothing(alloc),
     }
 }
 
 /// Opens a copy of the database in these files.
-fn open_copy_of<'a>(rt: &HostRuntime, located: &Located) -> Result<Database<'a>, Cause>
+fn open_copy_of<'a, F: FileSystem>(
+    fs: &F,
+    alloc: Global,
+    located: &Located,
+) -> Result<Database<'a>, Cause>
     ensures ready { IfOk result (λ database. IsReady database.conn) }
     ensures over { IfOk result (λ database. IsOverMemory database.conn) }
+    ensures opens { OpensCopyOf (λ (database : DatabaseOf). database.conn) F.FileSystem
+        fs.now located.now result }
 {
-    open_copied(rt.alloc(), &mut BookFiles { fs: rt, located })
+    open_copied(alloc, &mut BookFiles { fs, located })
 }
 
 /// Opens a copy of the database whose files are read there.
 fn open_copied<'a, S: Source>(alloc: Global, source: &mut S) -> Result<Database<'a>, Cause>
     ensures ready { IfOk result (λ database. IsReady database.conn) }
     ensures over { IfOk result (λ database. IsOverMemory database.conn) }
-    ensures shows { IfOk result (λ database. (files : FilesOf ImageOf)
-        × IsCopied S.Source source.old files source.new
-        × (HasCleanDisk (file_state database.conn) → Finds (in_memory files) database.conn)) }
-    ensures cause { IfErr result (λ cause.
-        IsUncopied S.Source 100 source.old cause source.new ⊎ IsOfCopy cause) }
+    ensures opens { OpensCopied (λ (database : DatabaseOf). database.conn) S.Source
+        source.old result source.new }
 {
     let files = copied(alloc, source)?;
     open_images(alloc, files, Options::new(SEED))
@@ -99,17 +105,24 @@ fn has_nothing<F: FileSystem>(fs: &F, path: &str) -> bool
 pub fn open_nothing<'a>(alloc: Global) -> Result<Database<'a>, Cause>
     ensures ready { IfOk result (λ database. IsReady database.conn) }
     ensures over { IfOk result (λ database. IsOverMemory database.conn) }
+    ensures opens { OpensNothing (λ (database : DatabaseOf). database.conn) result }
 {
-    let files = Files {
-        log: Image::new(Vec::new(alloc)),
-        db: Image::new(Vec::new(alloc)),
-    };
     let options = Options {
         cache_pages: FEW,
         spill_pages: FEW,
         ..Options::new(SEED)
     };
-    open_images(alloc, files, options)
+    open_images(alloc, no_bytes(alloc), options)
+}
+
+/// Returns two files in memory that hold nothing.
+fn no_bytes(alloc: Global) -> Files<Image>
+    ensures { HoldNothing result }
+{
+    Files {
+        log: Image::new(Vec::new(alloc)),
+        db: Image::new(Vec::new(alloc)),
+    }
 }
 
 /// Opens the database in files in memory.
@@ -119,9 +132,7 @@ fn open_images<'a>(
     options: Options,
 ) -> Result<Database<'a>, Cause>
     ensures ready { IfOk result (λ database. IsReady database.conn) }
-    ensures found { IfOk result (λ database. HasCleanDisk (file_state database.conn)
-        → Finds (in_memory files) database.conn) }
-    ensures cause { IfErr result IsOfCopy }
+    ensures opens { OpensImages (λ (database : DatabaseOf). database.conn) files result }
 {
     let files = Files {
         log: Medium::Memory(files.log),

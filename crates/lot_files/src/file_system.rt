@@ -1,6 +1,6 @@
 //! What a file system shows of paths.
 
-ghost use Rattle.std.specs.Prelude.{◌≡◌, ◌↔◌, ℕ, List, IsTrue, Option, Result, ⊤};
+ghost use Rattle.std.specs.Prelude.{◌≡◌, ◌↔◌, ℕ, List, IsTrue, Option, Result};
 ghost use Rattle.std.specs.Fs.{IsDir, IsFile, file_type, metadata_len};
 ghost use Rattle.std.specs.declared.fs.options.OpenOptions.{OpenOptions as OptionsOf};
 ghost use Rattle.std.specs.declared.io.Error.{Error as ErrorOf};
@@ -172,19 +172,21 @@ pub trait FileSystem {
 
 /// The system. No contract of its calls says what there is at a path.
 impl FileSystem for HostRuntime {
-    ghost leads_to = { λ _ _ _. ⊤ };
+    ghost use Rattle.lot_files.specs.System.{system_shows};
 
-    ghost has = { λ _ _ _. ⊤ };
+    ghost leads_to = { system_shows.leads_to };
 
-    ghost is_really = { λ _ _ _. ⊤ };
+    ghost has = { system_shows.has };
 
-    ghost begins = { λ _ _ _. ⊤ };
+    ghost is_really = { system_shows.is_really };
 
-    ghost heads = { λ _ _ _. ⊤ };
+    ghost begins = { system_shows.begins };
 
-    ghost holds = { λ _ _ _. ⊤ };
+    ghost heads = { system_shows.heads };
 
-    ghost opens = { λ _ _ _ _. ⊤ };
+    ghost holds = { system_shows.holds };
+
+    ghost opens = { system_shows.opens };
 
     fn metadata(&self, path: &str) -> io::Result<Entry> {
         Ok(Entry::of(&fs::metadata(self, path)?))

@@ -1,25 +1,29 @@
 //! The files of a book: its own, and its log beside it; and what a path of one leads to.
 
-ghost use Rattle.std.specs.Prelude.{◌≡◌, false, IfOk, IsOk, option_copied};
+ghost use Rattle.std.specs.Prelude.{◌≡◌, false, IfOk, IsOk, IsTrue, option_copied};
 ghost use Rattle.std.specs.String.{string_bytes};
 ghost use Rattle.lot_files.specs.Cause.{opening_error};
 ghost use Rattle.lot_files.specs.Entry.{zero_byte};
+ghost use Rattle.lot_files.specs.Noted.{AreNoted};
 ghost use Rattle.lot_files.specs.Opened.{IsOverSystem, IsReady};
+ghost use Rattle.lot_files.specs.Opening.{OpensAt, OpensGiven, OpensNoted};
 ghost use Rattle.lot_files.specs.Path.{folder_of, has_long_name, library_path, names_file};
 ghost use Rattle.lot_files.specs.Path.{names_no_file};
 ghost use Rattle.lot_files.specs.Shown.{AllowsBook, AllowsFile, ShowsEmpty, ShowsFolder};
 ghost use Rattle.lot_files.specs.Shown.{ShowsMissing};
+ghost use Rattle.lot_files.specs.declared.opened.Database.{Database as DatabaseOf};
 
 use crate::cause::Cause;
+use crate::file_opener::FileOpener;
 use crate::file_system::{FileSystem, is_absent, is_file_of, is_folder};
 use crate::medium::Medium;
 use crate::noted::{Failure, Noted};
-use crate::opened::Database;
+use crate::opened::{BookFile, Database};
 use crate::refusal::{why, why_over};
-use sqlite::{Connection, Error, ErrorCode, Files, Options, Unknown};
+use sqlite::{Connection, Error, ErrorCode, File, Files, Options};
+use sqlite_disk::Disk;
 use sqlite_std_file::OpenError;
 use std::alloc::{AllocError, Global};
-use std::hash::{BuildHasher, RandomState};
 use std::io::{self, ErrorKind};
 use std::path::Path;
 
@@ -39,32 +43,84 @@ const CANNOT_OPEN: Error = Error::SqliteFailure(ErrorCode::CannotOpen);
 
 /// Opens the database in the file of that path, and makes one where there is none. The files keep
 /// there why a call of them failed.
-pub(crate) fn open<'a>(
-    rt: &HostRuntime,
+pub(crate) fn open<'a, S: FileSystem + FileOpener<File = File>>(
+    system: &S,
+    alloc: Global,
     path: &str,
     failure: &'a Failure,
 ) -> Result<Database<'a>, Cause>
     ensures ready { IfOk result (λ database. IsReady database.conn) }
     ensures over { IfOk result (λ database. IsOverSystem database.conn) }
+    ensures opens { OpensAt (λ (database : DatabaseOf). database.conn) S.FileSystem S.FileOpener
+        system.now path.now result }
 {
-    let files = match sqlite_std_file::open(rt, path, Unknown) {
-        Ok(Files { log, db }) => Files {
-            log: Medium::System(Noted::new(log, failure)),
-            db: Medium::System(Noted::new(db, failure)),
-        },
-        Err(error) => return Err(why(rt, rt.alloc(), path, opening_error(error))),
-    };
-    let Ok(seed) = RandomState::new(rt) else {
-        return Err(why(rt, rt.alloc(), path, CANNOT_OPEN));
-    };
+    match system.open_files(path) {
+        Ok(files) => open_given(system, alloc, path, files, failure),
+        Err(error) => Err(why(system, alloc, path, opening_error(error))),
+    }
+}
+
+/// Opens the database in the files of that path, which are open. They keep there why a call of them
+/// failed.
+fn open_given<'a, S: FileSystem + FileOpener<File = File>>(
+    system: &S,
+    alloc: Global,
+    path: &str,
+    files: Files<File>,
+    failure: &'a Failure,
+) -> Result<Database<'a>, Cause>
+    requires log { IsTrue (⟦<File as Disk>⟧.is_usable files.log) }
+    requires db { IsTrue (⟦<File as Disk>⟧.is_usable files.db) }
+    ensures ready { IfOk result (λ database. IsReady database.conn) }
+    ensures over { IfOk result (λ database. IsOverSystem database.conn) }
+    ensures opens { OpensGiven (λ (database : DatabaseOf). database.conn) S.FileSystem S.FileOpener
+        system.now path.now files result }
+{
+    match system.seed() {
+        Some(number) => open_noted(system, alloc, path, files, number, failure),
+        None => Err(why(system, alloc, path, CANNOT_OPEN)),
+    }
+}
+
+/// Opens the database in them. The marks in the log begin with that number.
+fn open_noted<'a, F: FileSystem>(
+    fs: &F,
+    alloc: Global,
+    path: &str,
+    files: Files<File>,
+    number: u64,
+    failure: &'a Failure,
+) -> Result<Database<'a>, Cause>
+    requires log { IsTrue (⟦<File as Disk>⟧.is_usable files.log) }
+    requires db { IsTrue (⟦<File as Disk>⟧.is_usable files.db) }
+    ensures ready { IfOk result (λ database. IsReady database.conn) }
+    ensures over { IfOk result (λ database. IsOverSystem database.conn) }
+    ensures opens { OpensNoted (λ (database : DatabaseOf). database.conn) F.FileSystem
+        fs.now path.now files result }
+{
     let options = Options {
         cache_pages: CACHE_PAGES,
         spill_pages: SPILL_PAGES,
-        ..Options::new(seed.hash_one(&0u8))
+        ..Options::new(number)
     };
-    match Connection::open_files(rt.alloc(), files, options) {
+    match Connection::open_files(alloc, noted(files, failure), options) {
         Ok(conn) => Ok(Database { conn }),
-        Err((error, _left)) => Err(why_over(rt, rt.alloc(), path, error, &failure)),
+        Err((error, _left)) => Err(why_over(fs, alloc, path, error, &failure)),
+    }
+}
+
+/// Returns these files, which keep there why a call of them failed.
+fn noted<'a>(files: Files<File>, failure: &'a Failure) -> Files<BookFile<'a>>
+    requires log { IsTrue (⟦<File as Disk>⟧.is_usable files.log) }
+    requires db { IsTrue (⟦<File as Disk>⟧.is_usable files.db) }
+    ensures same { AreNoted files result }
+    ensures log { IsTrue (⟦<BookFile<'a> as Disk>⟧.is_usable result.log) }
+    ensures db { IsTrue (⟦<BookFile<'a> as Disk>⟧.is_usable result.db) }
+{
+    let Files { log, db } = files;
+    Files {
+        log: Medium::System(Noted::new(log, failure)),
+        db: Medium::System(Noted::new(db, failure)),
     }
 }
 

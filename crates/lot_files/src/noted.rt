@@ -1,8 +1,8 @@
 //! A file of the system that keeps why its last call failed: the library of the database makes a code
 //! of the error.
 
-ghost use Rattle.std.specs.Prelude.{◌≡◌, ⊤};
-ghost use Rattle.lot_files.specs.Noted.{IsKept, KeepsWhy, TellsKept, cause_in};
+ghost use Rattle.std.specs.Prelude.{◌≡◌, None};
+ghost use Rattle.lot_files.specs.Noted.{IsInCell, KeepsWhy, TellsCell, TellsKept, cause_in};
 
 use crate::cause::Cause;
 use crate::keeper::Keeper;
@@ -16,22 +16,27 @@ pub struct Failure(Cell<Option<io::Error>>);
 
 impl Failure {
     /// Returns that of files of which no call has failed.
-    pub fn none() -> Failure {
+    pub fn none() -> Failure
+        ensures { IsInCell result None }
+    {
         Failure(Cell::new(None))
     }
 
-    /// Returns why a call failed, where one did.
+    /// Returns why the last call failed of those that did, where one did.
     pub fn cause(&self) -> Option<Cause>
-        ensures { IsKept result }
+        ensures { TellsCell self.now result }
     {
         cause_kept(&self)
     }
 }
 
 impl Keeper for &Failure {
-    ghost keeps = { λ _ _ _. ⊤ };
+    ghost use Rattle.std.specs.Prelude.{Some};
+    ghost use Rattle.lot_files.specs.Noted.{IsInCell};
 
-    ghost holds = { λ _ _. ⊤ };
+    ghost keeps = { λ _ error failure. IsInCell failure.now (Some error) };
+
+    ghost holds = { λ failure kept. IsInCell failure.now kept };
 
     fn keep(&mut self, error: io::Error) {
         self.0.set(Some(error));

@@ -1,18 +1,24 @@
 //! A database that is opened: that of a file, or a copy of it.
 
-ghost use Rattle.std.specs.Prelude.{◌≡◌, IfOk, ⊤};
-ghost use Rattle.lot_files.specs.Opened.{IsOpenedFor, IsOverMemory, IsOverSystem, IsReady, IsSo};
+ghost use Rattle.std.specs.Prelude.{◌≡◌, IfOk};
+ghost use Rattle.lot_files.specs.Opened.{IsOpenedFor, IsReady, IsSo};
 ghost use Rattle.lot_files.specs.Opener.{OpensCopy, OpensFor, OpensFull, OpensToRead};
 ghost use Rattle.lot_files.specs.Opener.{is_for_copy};
+ghost use Rattle.lot_files.specs.Opening.{IsCopyAt, IsInFile, opener_over};
+ghost use Rattle.lot_files.specs.System.{system_gives};
+ghost use Rattle.lot_files.specs.declared.opened.Database.{Database as DatabaseOf};
 
 use crate::cause::Cause;
 use crate::copy::open_copy;
+use crate::file_opener::FileOpener;
+use crate::file_system::FileSystem;
 use crate::files::{is_empty, open};
 use crate::image::Image;
 use crate::medium::Medium;
 use crate::noted::{Failure, Noted};
 use crate::opener::Opener;
 use sqlite::{Connection, File, FileStore};
+use std::alloc::Global;
 
 /// A file of a book: of the system, or of a copy in memory.
 pub type BookFile<'a> = Medium<Noted<'a, File>, Image>;
@@ -43,38 +49,57 @@ pub struct Database<'a> {
     pub conn: Connection<FileStore<BookFile<'a>>>,
 }
 
-/// The system as what opens the databases of books, whose files keep there why a call of them failed.
-#[derive(Drop)]
-struct SystemOpener<'a, 'b> {
-    rt: &'b HostRuntime,
+/// A system as what opens the databases of books, whose files keep there why a call of them failed.
+struct SystemOpener<'a, 'b, S> {
+    system: &'b S,
+    alloc: Global,
     failure: &'a Failure,
 }
 
-impl<'a> Opener for SystemOpener<'a, '_> {
+impl<S> Drop for SystemOpener<'_, '_, S> {
+    /// It is written out, so that a system need not be one that can be dropped.
+    fn drop(self) {
+        let SystemOpener {
+            system: _,
+            alloc: _,
+            failure: _,
+        } = self;
+    }
+}
+
+impl<'a, S: FileSystem + FileOpener<File = File>> Opener for SystemOpener<'a, '_, S> {
+    ghost use Rattle.lot_files.specs.Opening.{IsCopyAt, IsInFile, OpensAt, OpensCopyAt};
+    ghost use Rattle.lot_files.specs.Opened.{IsReady};
+    ghost use Rattle.lot_files.specs.Shown.{ShowsEmpty};
+    ghost use Rattle.lot_files.specs.declared.opened.Database.{Database as DatabaseOf};
+
     type Database = Database<'a>;
 
-    ghost opens = { λ _ _ _. ⊤ };
+    ghost opens = { λ opener path result. OpensAt (λ (database : DatabaseOf). database.conn)
+        S.FileSystem S.FileOpener opener.system.now path result };
 
-    ghost copies = { λ _ _ _. ⊤ };
+    ghost copies = { λ opener path result. OpensCopyAt (λ (database : DatabaseOf). database.conn)
+        S.FileSystem opener.system.now path result };
 
-    ghost shows_empty = { λ _ _ _. ⊤ };
+    ghost shows_empty = { λ opener path empty.
+        ShowsEmpty S.FileSystem opener.system.now path empty };
 
-    ghost is_in = { λ _ database. IsOverSystem database.conn };
+    ghost is_in = { IsInFile (λ (database : DatabaseOf). database.conn) S.FileSystem S.FileOpener };
 
-    ghost is_copy = { λ _ database. IsOverMemory database.conn };
+    ghost is_copy = { IsCopyAt (λ (database : DatabaseOf). database.conn) S.FileSystem };
 
     ghost is_ready = { λ database. IsReady database.conn };
 
     fn open(&self, path: &str) -> Result<Self::Database, Cause> {
-        open(self.rt, path, self.failure)
+        open(self.system, self.alloc, path, self.failure)
     }
 
     fn copy(&self, path: &str) -> Result<Self::Database, Cause> {
-        open_copy(self.rt, path)
+        open_copy(self.system, self.alloc, path)
     }
 
     fn has_empty(&self, path: &str) -> bool {
-        is_empty(self.rt, path)
+        is_empty(self.system, path)
     }
 }
 
@@ -85,11 +110,40 @@ pub fn open_book<'a>(
     access: Access,
     failure: &'a Failure,
 ) -> Result<Opened<Database<'a>>, Cause>
-    ensures opened { IfOk result (IsOpenedFor (λ _ database. IsOverSystem database.conn)
-        (λ _ database. IsOverMemory database.conn) access path.now) }
+    ensures opens { OpensFor (opener_over (λ (database : DatabaseOf). database.conn)
+        ⟦<HostRuntime as FileSystem>⟧ system_gives) rt.now access path.now result }
+    ensures opened { IfOk result (IsOpenedFor
+        (IsInFile (λ (database : DatabaseOf). database.conn) ⟦<HostRuntime as FileSystem>⟧
+        system_gives)
+        (IsCopyAt (λ (database : DatabaseOf). database.conn) ⟦<HostRuntime as FileSystem>⟧)
+        access path.now) }
     ensures ready { IfOk result (IsSo (λ database. IsReady database.conn)) }
 {
-    open_for(&SystemOpener { rt, failure }, path, access)
+    open_of(rt, rt.alloc(), path, access, failure)
+}
+
+/// Opens the book in the file of that path of a system.
+fn open_of<'a, S: FileSystem + FileOpener<File = File>>(
+    system: &S,
+    alloc: Global,
+    path: &str,
+    access: Access,
+    failure: &'a Failure,
+) -> Result<Opened<Database<'a>>, Cause>
+    ensures opens { OpensFor (opener_over (λ (database : DatabaseOf). database.conn) S.FileSystem
+        S.FileOpener) system.now access path.now result }
+    ensures opened { IfOk result (IsOpenedFor
+        (IsInFile (λ (database : DatabaseOf). database.conn) S.FileSystem S.FileOpener)
+        (IsCopyAt (λ (database : DatabaseOf). database.conn) S.FileSystem)
+        access path.now) }
+    ensures ready { IfOk result (IsSo (λ database. IsReady database.conn)) }
+{
+    let opener = SystemOpener {
+        system,
+        alloc,
+        failure,
+    };
+    open_for(&opener, path, access)
 }
 
 /// Opens it by what it is opened for.

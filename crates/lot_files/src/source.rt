@@ -81,18 +81,13 @@ impl<F> Drop for BookFiles<'_, F> {
 }
 
 impl<F: FileSystem> Source for BookFiles<'_, F> {
-    ghost use Rattle.std.specs.Prelude.{◌≡◌};
-    ghost use Rattle.std.specs.String.{string_bytes};
-    ghost use Rattle.lot_files.specs.BookFiles.{GivesFile, GivesStamp};
+    ghost use Rattle.lot_files.specs.Copy.{reads_files};
 
-    ghost stamps = { λ s answer left. (left ≡ s) × GivesStamp F.FileSystem s.fs.now
-        (string_bytes s.located.now.book) (string_bytes s.located.now.log) answer };
+    ghost stamps = { (reads_files F.FileSystem).stamps };
 
-    ghost reads_book = { λ s answer left. (left ≡ s) × GivesFile F.FileSystem s.fs.now
-        (string_bytes s.located.now.book) answer };
+    ghost reads_book = { (reads_files F.FileSystem).reads_book };
 
-    ghost reads_log = { λ s answer left. (left ≡ s) × GivesFile F.FileSystem s.fs.now
-        (string_bytes s.located.now.log) answer };
+    ghost reads_log = { (reads_files F.FileSystem).reads_log };
 
     fn stamp(&mut self) -> Result<Stamp, Cause> {
         let entry = match self.fs.metadata(self.located.book.as_str()) {

@@ -1,16 +1,23 @@
 //! The headline.
-ghost use Rattle.std.specs.Prelude.{◌≤◌, ℕ, List, [], length};
+ghost use Rattle.std.specs.Prelude.{◌≤◌, ℕ, List, [], Option, length};
+ghost use Rattle.lot_args.specs.declared.action.Action.{Action};
+ghost use Rattle.lot_args.specs.declared.request.Preview.TheVariants.{Nothing};
 ghost use Rattle.lot_book.specs.Book.{IsBookIn};
 ghost use Rattle.lot_book.specs.Edition.{After};
 ghost use Rattle.lot_book.specs.Facts.{Entry};
 ghost use Rattle.lot_cli.specs.Init.{IsMade};
+ghost use Rattle.lot_cli.specs.Preview.{Outcome, ServesWithPreview};
 ghost use Rattle.lot_cli.specs.Reopen.{StandsForOneOf};
 ghost use Rattle.lot_cli.specs.Sessions.{Sent, StopsLeave};
-ghost use Rattle.lot_headline.specs.Calls.{CallsFollow, IsFound, IsReopened, IsSettled};
+ghost use Rattle.lot_headline.specs.Calls.{CallsFollow, IsCall, IsFound, IsOnBook};
+ghost use Rattle.lot_headline.specs.Calls.{IsReopened, IsSettled};
 ghost use Rattle.lot_headline.specs.Headline.{Headline};
+ghost use Rattle.lot_input.specs.Input.{Reading};
+ghost use Rattle.lot_io.specs.Writes.{WriteCalls};
 ghost use Rattle.lot_stored.specs.StandFor.{Stands};
 ghost use Rattle.sqlite.specs.Files.{file_state};
 ghost use Rattle.sqlite.specs.Held.{Held};
+ghost use Rattle.sqlite.specs.State.{HasCleanDisk};
 ghost use Rattle.sqlite_store.specs.declared.store.FileStore.{FileStore};
 
 use sqlite_disk::Disk;
@@ -51,4 +58,15 @@ pub fn calls_keep_the_headline<D: Disk>()
         → IsMade (file_state opened) (file_state stopped) → IsSettled stopped
         → IsReopened stopped next → CallsFollow next sessions last
         → StandsForOneOf (Headline 0 [] sessions) (file_state last) }
+{}
+
+/// An action that is served with nothing told behind its answer, as on a book that is kept, is one of
+/// these calls. What is told of a dry run is told of a copy.
+pub fn what_is_served_alone_is_a_call<D: Disk>()
+    ensures { (action : Action) (input : Reading) (opened : Held (FileStore D D.Disk))
+        (before : Option (List ℕ)) (calls : Option WriteCalls)
+        (to : Outcome (Held (FileStore D D.Disk)))
+        → ServesWithPreview file_state action input Nothing opened before calls to
+        → IsOnBook action → HasCleanDisk (file_state to.conn)
+        → (sent : Sent) × IsCall opened to.conn sent }
 {}

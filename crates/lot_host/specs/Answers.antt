@@ -6,7 +6,7 @@ use Rattle.clap.specs.declared.error.ErrorKind.TheVariants.{DisplayHelp, Display
 use Rattle.lot_stream.specs.Status.{code_of}
 use Rattle.lot_stream.specs.declared.status.Status.TheVariants.{Accepted, Stopped}
 use Rattle.lot_args.specs.declared.fault.WordsFault.{WordsFault}
-use Rattle.lot_args.specs.declared.fault.WordsFault.TheVariants.{BadValue, Memory, Misplaced, MissingOptions, Usage}
+use Rattle.lot_args.specs.declared.fault.WordsFault.TheVariants.{BadValue, Memory, Misplaced, MissingOptions, Unmatched, Usage}
 
 -- the status of words that can't be used
 abbrev pub unusable : ℕ
@@ -31,6 +31,7 @@ IsStatusOf (Usage error) status = IsStatusOfKind (kind_of error) status
 IsStatusOf (Misplaced option) status = status ≡ unusable
 IsStatusOf (MissingOptions needed) status = status ≡ unusable
 IsStatusOf (BadValue bad) status = status ≡ unusable
+IsStatusOf Unmatched status = status ≡ stopped
 IsStatusOf Memory status = status ≡ stopped
 
 -- The status of a code that is explained, or of a word that names none. Without a word all codes are shown.

@@ -38,7 +38,7 @@ module _ {H : Type 0} {D O : Type 0} (g : Ghosts H D O) where
     pub its : g.is_old database old
 
   -- it is the one that the action names, where it names one
-  abbrev IsItsOld : Option (List ℕ) → Option O → Type 0
+  abbrev pub IsItsOld : Option (List ℕ) → Option O → Type 0
   IsItsOld None None = ⊤
   IsItsOld None (Some old) = ⊥
   IsItsOld (Some path) None = ⊥

@@ -4,12 +4,12 @@ use Rattle.std.specs.String.{string_bytes}
 use Rattle.clap.specs.Words.{Text, fault_of, kind_of}
 use Rattle.clap.specs.Kinds.{IsAmong}
 use Rattle.lot_args.specs.Program.{program_app}
-use Rattle.lot_args.specs.Words.{AskFor, HaveBadIn, HaveMisplaced, LackSome}
+use Rattle.lot_args.specs.Words.{AskFor, HaveBadIn, HaveMisplaced, HaveNoneBad, LackSome}
 use Rattle.lot_args.specs.declared.action.Action.TheVariants.{ImportBy}
 use Rattle.lot_args.specs.declared.action.AskedImport.{AskedImport}
 use Rattle.lot_args.specs.declared.action.ImportBy.{ImportBy as ImportByOf}
 use Rattle.lot_args.specs.declared.fault.WordsFault.{WordsFault}
-use Rattle.lot_args.specs.declared.fault.WordsFault.TheVariants.{BadValue, Memory, Misplaced, MissingOptions, Usage}
+use Rattle.lot_args.specs.declared.fault.WordsFault.TheVariants.{BadValue, Memory, Misplaced, MissingOptions, Unmatched, Usage}
 use Rattle.lot_args.specs.declared.request.Effect.{Effect}
 use Rattle.lot_args.specs.declared.request.Request.{Request}
 use Rattle.lot_args.specs.declared.request.Request.TheVariants.{Act, Explain, Import, Show}
@@ -25,7 +25,8 @@ HaveFault words (Usage error) = IsAmong (kind_of error) (fault_of program_app wo
 HaveFault words (Misplaced option) = HaveMisplaced words option
 HaveFault words (MissingOptions needed) = LackSome words needed
 HaveFault words (BadValue bad) = HaveBadIn words bad
-HaveFault words Memory = ⊤
+HaveFault words Unmatched = ⊤
+HaveFault words Memory = HaveNoneBad words
 
 -- an import with its profile
 abbrev pub with_profile : AskedImport → Profile → Option Rounding → ImportByOf

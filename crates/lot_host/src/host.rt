@@ -1,16 +1,21 @@
 //! The host of a call: the files and the streams of a system, as far as a call needs them.
 
-ghost use Rattle.std.specs.Prelude.{◌≡◌, ◌≤◌, ℕ, Bool, List, Option, None, Some, IfErr, IfOk, IsOk, option_copied};
+ghost use Rattle.std.specs.Prelude.{◌≡◌, ◌≤◌, ◌<◌, ℕ, Bool, List, Option, None, Some, IfErr, IfOk, IsOk, option_copied};
 ghost use Rattle.std.specs.String.{string_bytes};
 ghost use Rattle.lot_args.specs.declared.action.Action.{Action as ActionOf};
 ghost use Rattle.lot_args.specs.declared.request.Effect.{Effect as EffectOf};
 ghost use Rattle.lot_files.specs.declared.cause.Cause.{Cause as CauseOf};
 ghost use Rattle.lot_files.specs.Path.{library_path};
 ghost use Rattle.lot_host.specs.Answers.{IsStatusOf, stopped};
+ghost use Rattle.lot_host.specs.Stage.{MayOpen, MayServe, MayTell, served_of, stage_empty, stage_of};
+ghost use Rattle.lot_host.specs.declared.stage.Stage.{Stage as StageOf};
+ghost use Rattle.lot_host.specs.declared.stage.Stage.TheVariants.{Begun, OldOpened, OldTaken};
+ghost use Rattle.lot_host.specs.declared.stage.Stage.TheVariants.{Over, Refused, Served, Warned};
 ghost use Rattle.lot_files.specs.Opened.{IsOpenedFor, IsSo};
 ghost use Rattle.lot_profile.specs.declared.profile.Profile.{Profile as ProfileOf};
 ghost use Rattle.lot_rounding.specs.declared.rounding.Rounding.{Rounding as RoundingOf};
 
+use crate::stage::Part;
 use lot_args::{Action, Effect, Notes, Request, WordsFault};
 use lot_files::{Access, Cause, Opened};
 use lot_profile::Profile;
@@ -27,6 +32,7 @@ pub struct Task {
 /// The host of a call.
 ///
 /// The ghost members are what a reader of `main` checks: which database is the one of a file, and what it is to do an action there.
+/// What a host does, it does at its `stage` alone: so that no more is done than is said.
 pub trait Host {
     /// An opened database.
     type Database: Drop;
@@ -83,6 +89,9 @@ pub trait Host {
     // A code, or without one each, is explained with that status.
     ghost tells: { Option (List ℕ) → ℕ → Type 0 };
 
+    // How far it is with a call.
+    ghost stage: { Self → StageOf };
+
     /// Returns the path by which the library of the database opens the file of that path.
     fn library_path(&self, path: &str) -> Result<String, Cause>
         ensures named { IfOk result (λ text. string_bytes text ≡ library_path path.now) }
@@ -98,66 +107,105 @@ pub trait Host {
         ensures { shows_missing path.now result };
 
     /// Opens the database in the file of that path.
-    fn open(&self, path: &str, access: Access) -> Result<Opened<Self::Database>, Cause>
-        requires { is_openable path.now }
+    fn open(
+        &mut self,
+        part: Part,
+        path: &str,
+        access: Access,
+    ) -> Result<Opened<Self::Database>, Cause>
+        requires openable { is_openable path.now }
+        requires stage { MayOpen part (stage self.old) }
         ensures opened { IfOk result (IsOpenedFor is_in copies access path.now) }
         ensures ready { IfOk result (IsSo is_ready) }
-        ensures fault { IfErr result (refuses (Some path.now)) };
+        ensures stage { IfOk result (λ opened. stage self.new ≡ stage_of part opened) }
+        ensures fault { IfErr result (refuses (Some path.now)) }
+        ensures refused { IfErr result (λ _. stage self.new ≡ Refused) };
 
     /// Opens an empty database, of which nothing stays.
-    fn open_nothing(&self) -> Result<Self::Database, Cause>
+    fn open_nothing(&mut self, part: Part) -> Result<Self::Database, Cause>
+        requires { MayOpen part (stage self.old) }
         ensures empty { IfOk result is_empty }
         ensures ready { IfOk result is_ready }
-        ensures fault { IfErr result (refuses None) };
+        ensures stage { IfOk result (λ _. stage self.new ≡ stage_empty part) }
+        ensures fault { IfErr result (refuses None) }
+        ensures refused { IfErr result (λ _. stage self.new ≡ Refused) };
 
     /// Does the action of a task on a database, and tells behind it what its effect asks for. Returns the status and the database.
-    fn serve(&self, task: &Task, database: Self::Database) -> (u8, Self::Database)
-        requires { is_ready database }
-        ensures { serves task.now.action task.now.effect database result.0 result.1 };
+    fn serve(&mut self, task: &Task, database: Self::Database) -> (u8, Self::Database)
+        requires ready { is_ready database }
+        requires stage { MayServe (stage self.old) }
+        ensures serves { serves task.now.action task.now.effect database result.0 result.1 }
+        ensures stage { result.0 ≤ 1 → stage self.new ≡ served_of (stage self.old) }
+        ensures over { 1 < result.0 → stage self.new ≡ Over };
 
     /// Closes the database of a file. What was committed is there in either case.
-    fn close(&self, database: Self::Database);
+    fn close(&mut self, database: Self::Database)
+        requires { stage self.old ≡ Served }
+        ensures { stage self.new ≡ Over };
 
     /// Takes up the book in a database, that of the path, to be read. The error is the status of the program: why it can't is said.
-    fn take_up(&self, task: &Task, path: &str, database: Self::Database) -> Result<Self::Old, u8>
-        requires { is_ready database }
+    fn take_up(
+        &mut self,
+        task: &Task,
+        path: &str,
+        database: Self::Database,
+    ) -> Result<Self::Old, u8>
+        requires ready { is_ready database }
+        requires stage { stage self.old ≡ OldOpened }
         ensures old { IfOk result (is_old database) }
-        ensures fault { IfErr result (refuses_old database) };
+        ensures stage { IfOk result (λ _. stage self.new ≡ OldTaken) }
+        ensures fault { IfErr result (refuses_old database) }
+        ensures over { IfErr result (λ _. stage self.new ≡ Over) };
 
     /// Says how the book in a database, which was made with that status, differs from an old one. Returns the status then, and the
     /// database.
     fn compare(
-        &self,
+        &mut self,
         task: &Task,
         status: u8,
         database: Self::Database,
         old: Self::Old,
     ) -> (u8, Self::Database)
         requires { status ≤ 1 }
-        ensures { compares status database old result.0 };
+        ensures compares { compares status database old result.0 }
+        ensures stage { result.0 ≤ 1 → stage self.new ≡ stage self.old }
+        ensures over { 1 < result.0 → stage self.new ≡ Over };
 
     /// Says why the database of that path can't be opened, and returns the status.
-    fn say_unopened(&self, task: &Task, path: &str, cause: Cause) -> u8
+    fn say_unopened(&mut self, task: &Task, path: &str, cause: Cause) -> u8
+        requires { MayTell (stage self.old) }
         ensures told { tells_unopened cause result }
-        ensures stops { result ≡ stopped };
+        ensures stops { result ≡ stopped }
+        ensures over { stage self.new ≡ Over };
 
     /// Reads the profile in the file of that path. The error is the status of the program: why there is none is said.
-    fn load(&self, path: &str) -> Result<(Profile, Option<Rounding>), u8>
+    fn load(&mut self, path: &str) -> Result<(Profile, Option<Rounding>), u8>
+        requires { stage self.old ≡ Warned }
         ensures loaded { IfOk result (λ loaded. has_profile path.now loaded.0 loaded.1) }
-        ensures fault { IfErr result (refuses_profile path.now) };
+        ensures stage { IfOk result (λ _. stage self.new ≡ Warned) }
+        ensures fault { IfErr result (refuses_profile path.now) }
+        ensures over { IfErr result (λ _. stage self.new ≡ Over) };
 
     /// Shows what an export comes to by a profile, and returns the status.
-    fn show(&self, profile: &Profile, notes: Notes) -> u8
-        ensures { shows profile.now result };
+    fn show(&mut self, profile: &Profile, notes: Notes) -> u8
+        requires { stage self.old ≡ Warned }
+        ensures shows { shows profile.now result }
+        ensures over { stage self.new ≡ Over };
 
     /// Tells what a code means, or without one what each does, and returns the status.
-    fn tell(&self, code: Option<&str>) -> u8
-        ensures { tells (option_copied code.entry) result };
+    fn tell(&mut self, code: Option<&str>) -> u8
+        requires { stage self.old ≡ Warned }
+        ensures tells { tells (option_copied code.entry) result }
+        ensures over { stage self.new ≡ Over };
 
     /// Warns of words that may have been meant otherwise than they are taken.
-    fn warn(&self, words: &[String], request: &Request);
+    fn warn(&mut self, words: &[String], request: &Request)
+        requires { stage self.old ≡ Begun }
+        ensures { stage self.new ≡ Warned };
 
     /// Says what is wrong with words, or shows the help or the version that they ask for. Returns the status.
-    fn answer(&self, words: &[String], fault: &WordsFault) -> u8
-        ensures { IsStatusOf fault.now result };
+    fn answer(&mut self, words: &[String], fault: &WordsFault) -> u8
+        requires { stage self.old ≡ Begun }
+        ensures status { IsStatusOf fault.now result }
+        ensures over { stage self.new ≡ Over };
 }

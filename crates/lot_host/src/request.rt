@@ -3,6 +3,7 @@
 ghost use Rattle.std.specs.Prelude.{◌≡◌, ◌⊎◌, IfErr, IfOk, map};
 ghost use Rattle.std.specs.String.{string_bytes};
 ghost use Rattle.lot_host.specs.Run.{IsImported, IsMet, IsRun, IsShownBy};
+ghost use Rattle.lot_host.specs.declared.stage.Stage.TheVariants.{Begun, Over, Warned};
 
 use crate::action::act;
 use crate::host::{Host, Task};
@@ -11,8 +12,10 @@ use std::alloc::Global;
 
 /// Does what arguments ask for, of which the first is the program's name, and returns the status of the program: the one at hand
 /// where they couldn't be read.
-pub fn run<H: Host>(host: &H, alloc: Global, words: Result<Vec<String>, u8>) -> u8
+pub fn run<H: Host>(host: &mut H, alloc: Global, words: Result<Vec<String>, u8>) -> u8
+    requires { H.stage host.old ≡ Begun }
     ensures run { IfOk words (λ words. IsRun H.Host (map string_bytes words.items) result) }
+    ensures over { IfOk words (λ _. H.stage host.new ≡ Over) }
     ensures unread { IfErr words (λ status. result ≡ status) }
 {
     match words {
@@ -22,8 +25,10 @@ pub fn run<H: Host>(host: &H, alloc: Global, words: Result<Vec<String>, u8>) -> 
 }
 
 /// Does what words ask for. Where they can't be used, or ask for help, that is said.
-fn run_words<H: Host>(host: &H, alloc: Global, words: &[String]) -> u8
-    ensures { IsRun H.Host (map string_bytes words.now) result }
+fn run_words<H: Host>(host: &mut H, alloc: Global, words: &[String]) -> u8
+    requires { H.stage host.old ≡ Begun }
+    ensures run { IsRun H.Host (map string_bytes words.now) result }
+    ensures over { H.stage host.new ≡ Over }
 {
     match parse_words(alloc, words) {
         Ok(request) => {
@@ -35,8 +40,10 @@ fn run_words<H: Host>(host: &H, alloc: Global, words: &[String]) -> u8
 }
 
 /// Does what is asked for, and returns the status of the program.
-fn meet<H: Host>(host: &H, request: Request) -> u8
-    ensures { IsMet H.Host request result }
+fn meet<H: Host>(host: &mut H, request: Request) -> u8
+    requires { H.stage host.old ≡ Warned }
+    ensures met { IsMet H.Host request result }
+    ensures over { H.stage host.new ≡ Over }
 {
     match request {
         Request::Act {
@@ -63,9 +70,17 @@ fn meet<H: Host>(host: &H, request: Request) -> u8
 }
 
 /// Imports by the profile in the file of that path, and returns the status of the program.
-fn import_by<H: Host>(host: &H, path: &str, import: AskedImport, effect: Effect, notes: Notes) -> u8
-    ensures { H.refuses_profile path.now result
+fn import_by<H: Host>(
+    host: &mut H,
+    path: &str,
+    import: AskedImport,
+    effect: Effect,
+    notes: Notes,
+) -> u8
+    requires { H.stage host.old ≡ Warned }
+    ensures imported { H.refuses_profile path.now result
         ⊎ IsImported H.Host path.now import effect result }
+    ensures over { H.stage host.new ≡ Over }
 {
     match host.load(path) {
         Ok((profile, rounding)) => act(
@@ -81,8 +96,10 @@ fn import_by<H: Host>(host: &H, path: &str, import: AskedImport, effect: Effect,
 }
 
 /// Shows what an export comes to by the profile in the file of that path, and returns the status of the program.
-fn show_by<H: Host>(host: &H, path: &str, notes: Notes) -> u8
-    ensures { H.refuses_profile path.now result ⊎ IsShownBy H.Host path.now result }
+fn show_by<H: Host>(host: &mut H, path: &str, notes: Notes) -> u8
+    requires { H.stage host.old ≡ Warned }
+    ensures shown { H.refuses_profile path.now result ⊎ IsShownBy H.Host path.now result }
+    ensures over { H.stage host.new ≡ Over }
 {
     match host.load(path) {
         Ok((profile, _)) => host.show(&profile, notes),

@@ -69,6 +69,13 @@ impl<W> CountedWriter<W> {
             is_flushed: true,
         }
     }
+
+    /// Returns the writer.
+    pub fn into_writer(self) -> W
+        ensures { result ≡ writer_of self }
+    {
+        self.writer
+    }
 }
 
 impl<W: Write> CountedWrite for CountedWriter<W> {

@@ -15,29 +15,22 @@ use Rattle.lot_legs.specs.Legs.{dated_legs, dated_legs_of, leg_cmp, leg_in}
 use Rattle.lot_legs.specs.declared.leg.DatedLeg.{DatedLeg}
 use Rattle.lot_legs.proofs.BookLemmas.{has_sorted, sorted_has}
 use Rattle.lot_register.specs.declared.leg.NotedLeg.{NotedLeg}
-use Rattle.lot_noted.specs.Book.{Asked, by_day, day_cmp, has, is_asked, narration_of, noted, noted_legs, noted_legs_of, register_legs}
+use Rattle.lot_noted.specs.Book.{Asked, bare, by_day, day_cmp, has, is_asked, narration_of, noted, noted_legs, noted_legs_of, register_legs}
 use Rattle.lot_noted.specs.Keys.{AreInOrder, asked_keys, key_cmp, key_in, key_of}
 use Rattle.lot_noted.specs.declared.key.LegKey.{LegKey}
 use Rattle.lot_noted.proofs.DayLemmas.{IsListedBelow, IsPlacedBelow, days_total, keys_total, sorted_up}
-
--- the leg without the narration
-abbrev pub bare : NotedLeg → DatedLeg
-bare leg = record {
-  entry = leg.entry;
-  day = leg.day;
-  posting = leg.posting;
-  place = leg.place;
-  account = leg.account;
-  commodity = leg.commodity;
-  units = leg.units;
-  lot = leg.lot;
-}
 
 pub bare_legs : (entries : List Entry) → map bare (noted_legs entries) ≡ dated_legs entries
 bare_legs entries =
     map-flat_map bare noted_legs_of entries
     ∙ flat_map_same_on (λ (entry : Entry). map bare (noted_legs_of entry)) dated_legs_of
     (λ entry. map_back (noted (narration_of entry.command)) bare (λ leg. refl) (dated_legs_of entry)) entries
+
+-- the keys of those that are asked for are those of the legs with their days
+pub keys_of_asked : (asked : Asked) (legs : List NotedLeg) → map key_of (filter (is_asked asked) legs) ≡ asked_keys asked (map bare legs)
+keys_of_asked asked legs =
+    sym (map-map key_in bare (filter (is_asked asked) legs))
+    ∙ ap (map key_in) (sym (filter-map (λ (leg : DatedLeg). has asked leg.account leg.commodity leg.day) bare legs))
 
 -- ---- which legs
 
@@ -67,13 +60,8 @@ module _ (asked : Asked) (entries : List Entry) (up : IsAscending IsBefore (date
 
   -- ---- their keys
 
-  abbrev asked_leg : DatedLeg → Bool
-  asked_leg leg = has asked leg.account leg.commodity leg.day
-
   chosen_keys : map key_of chosen ≡ asked_keys asked (dated_legs entries)
-  chosen_keys =
-      sym (map-map key_in bare chosen)
-      ∙ ap (map key_in) (sym (filter-map asked_leg bare (noted_legs entries)) ∙ ap (filter asked_leg) (bare_legs entries))
+  chosen_keys = keys_of_asked asked (noted_legs entries) ∙ ap (asked_keys asked) (bare_legs entries)
 
   abbrev listed : List LegKey
   listed = map key_of (register_legs asked entries)

@@ -2,4 +2,5 @@ pub mod BareLemmas
 pub mod DayLemmas
 pub mod HeadLemmas
 pub mod KeyLemmas
+pub mod RisingLemmas
 pub mod SumLemmas

@@ -16,8 +16,8 @@ use Rattle.lot_register.specs.Left.{is_of_pair, left_in}
 use Rattle.lot_register.specs.declared.leg.NotedLeg.{NotedLeg}
 use Rattle.lot_register.proofs.LeftLemmas.{one_pair}
 use Rattle.lot_walk.specs.Gains.{is_up_to}
-use Rattle.lot_noted.specs.Book.{Asked, day_cmp, has, is_asked, is_commodity, is_of, noted_legs, pair_of, register_legs, units_booked}
-use Rattle.lot_noted.proofs.BareLemmas.{bare, bare_legs}
+use Rattle.lot_noted.specs.Book.{Asked, bare, day_cmp, has, is_asked, is_commodity, is_of, noted_legs, pair_of, register_legs, units_booked}
+use Rattle.lot_noted.proofs.BareLemmas.{bare_legs}
 
 -- a sum over what is made of elements
 sum_mapped : {X Y : Type 0} (g : X → Y) (p : Y → Bool) (f : Y → ℤ) (xs : List X)

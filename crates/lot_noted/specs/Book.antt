@@ -1,10 +1,11 @@
 -- The legs of a book as a register lists them: in the order of days, each with the narration of its entry (docs/FORMATS.md,
 -- Register).
 use denote.Ref.{Bor}
-use Rattle.std.specs.Prelude.{◌≡◌, ℕ, ℤ, ◌==◌, ◌&&◌, Bool, true, if◌then◌else◌, codes, List, [], ◌∷◌, ◌++◌, filter, flat_map, map, Option, None, Some, option_map}
+use Rattle.std.specs.Prelude.{◌≡◌, ℕ, ℤ, ◌==◌, ◌&&◌, Bool, true, IsTrue, if◌then◌else◌, codes, List, [], ◌∷◌, ◌++◌, filter, flat_map, map, Option, None, Some, option_map}
 use Rattle.std.specs.List.{before_first, ends_with, starts_with}
 use Rattle.std.specs.Ordering.{int_cmp, is_eq}
 use Rattle.std.specs.declared.cmp.Ordering.{Ordering}
+use Rattle.sqlite.specs.Tree.{IsAscending}
 use Rattle.sqlite_keyed.specs.Lists.{sort_by}
 use Rattle.lot_base.specs.Text.{same_text}
 use Rattle.lot_num.specs.Sum.{sum_of}
@@ -17,7 +18,7 @@ use Rattle.lot_book.specs.Change.{pair_cmp}
 use Rattle.lot_book.specs.Facts.{Entry, legs_of}
 use Rattle.lot_book.specs.declared.change.Pair.{Pair}
 use Rattle.lot_book.specs.declared.leg.Leg.{Leg}
-use Rattle.lot_legs.specs.Legs.{dated_legs_of}
+use Rattle.lot_legs.specs.Legs.{dated_legs_of, day_of, is_by}
 use Rattle.lot_legs.specs.declared.leg.DatedLeg.{DatedLeg}
 use Rattle.lot_register.specs.declared.leg.NotedLeg.{NotedLeg}
 use Rattle.lot_walk.specs.Gains.{is_up_to}
@@ -55,6 +56,19 @@ noted narration leg = record {
   units = leg.units;
   lot = leg.lot;
   narration = narration;
+}
+
+-- the leg without the narration
+abbrev pub bare : NotedLeg → DatedLeg
+bare leg = record {
+  entry = leg.entry;
+  day = leg.day;
+  posting = leg.posting;
+  place = leg.place;
+  account = leg.account;
+  commodity = leg.commodity;
+  units = leg.units;
+  lot = leg.lot;
 }
 
 -- the legs of an entry, in the order of its postings
@@ -106,6 +120,16 @@ by_day legs = sort_by day_cmp legs
 -- the legs of a register
 abbrev pub register_legs : Asked → List Entry → List NotedLeg
 register_legs asked entries = by_day (filter (is_asked asked) (noted_legs entries))
+
+-- ---- days that never fall
+
+-- the days of entries, in the order of the entries
+abbrev pub days_of : List Entry → List ℤ
+days_of entries = map (λ (entry : Entry). day_of entry.command) entries
+
+-- no day is before one that stands before it
+abbrev pub NeverFall : List ℤ → Type 0
+NeverFall days = IsAscending (λ (day later : ℤ). IsTrue (is_by later day)) days
 
 -- ---- laws
 

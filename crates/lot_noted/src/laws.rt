@@ -1,6 +1,6 @@
 //! Laws of the legs of a register. Each is the contract of a function that does nothing, or only
 //! calls the laws on which it stands.
-ghost use Rattle.std.specs.Prelude.{◌≡◌, ◌↔◌, IsTrue, List, None, map};
+ghost use Rattle.std.specs.Prelude.{◌≡◌, ◌↔◌, IsTrue, List, None, filter, map};
 ghost use Rattle.std.specs.declared.cmp.Ordering.TheVariants.{Less};
 ghost use Rattle.sqlite.specs.Tree.{IsAscending};
 ghost use Rattle.sqlite_rules.specs.Lists.{Has};
@@ -8,7 +8,8 @@ ghost use Rattle.lot_book.specs.Book.{IsBook};
 ghost use Rattle.lot_book.specs.Facts.{Entry};
 ghost use Rattle.lot_book.specs.declared.change.Pair.{Pair};
 ghost use Rattle.lot_legs.specs.Legs.{dated_legs};
-ghost use Rattle.lot_noted.specs.Book.{Asked, is_asked, is_commodity, is_of, noted_legs, register_legs, units_booked};
+ghost use Rattle.lot_noted.specs.Book.{Asked, NeverFall, days_of, is_asked, is_commodity, is_of};
+ghost use Rattle.lot_noted.specs.Book.{noted_legs, register_legs, units_booked};
 ghost use Rattle.lot_noted.specs.declared.key.LegKey.{LegKey};
 ghost use Rattle.lot_noted.specs.Keys.{AreInOrder, key_cmp, key_of};
 ghost use Rattle.lot_register.specs.Left.{left_in};
@@ -40,6 +41,12 @@ pub fn keys_in_their_order_are_those_of_the_legs()
 {
     dated_legs_are_in_their_order();
 }
+
+/// Where the days of the entries never fall, they are in the order in which the book has them.
+pub fn legs_stay_where_days_never_fall()
+    ensures { (asked : Asked) (entries : List Entry) → NeverFall (days_of entries)
+        → register_legs asked entries ≡ filter (is_asked asked) (noted_legs entries) }
+{}
 
 /// With no last day they leave of a commodity in an account, both asked for, the sum of all legs
 /// that the book has there.

@@ -1,9 +1,10 @@
 ghost use Rattle.std.specs.Prelude.{◌≡◌, option_map};
-ghost use Rattle.lot_noted.specs.Book.{asked_in, has, is_commodity, is_of};
+ghost use Rattle.lot_noted.specs.Book.{asked_in, has, is_asked, is_commodity, is_of};
 ghost use Rattle.lot_walk.specs.Gains.{is_up_to};
 
 use lot_base::Day;
 use lot_legs::DatedLeg;
+use lot_register::NotedLeg;
 
 /// Which legs a register is over.
 #[derive(Clone, Copy)]
@@ -22,9 +23,22 @@ impl RegisterScope<'_> {
     pub fn has(&self, leg: &DatedLeg) -> bool
         ensures { result ≡ has (asked_in self.now) leg.now.account leg.now.commodity leg.now.day }
     {
-        is_of(self.account, leg.account.as_str())
-            && (is_commodity(self.commodity, leg.commodity.as_str())
-                && is_up_to(self.last, leg.day))
+        self.takes(leg.account.as_str(), leg.commodity.as_str(), leg.day)
+    }
+
+    /// Returns whether a leg with its narration is one of these.
+    pub fn has_noted(&self, leg: &NotedLeg) -> bool
+        ensures { result ≡ is_asked (asked_in self.now) leg.now }
+    {
+        self.takes(leg.account.as_str(), leg.commodity.as_str(), leg.day)
+    }
+
+    /// Returns whether a leg of that commodity in that account, on that day, is one of these.
+    fn takes(&self, account: &str, commodity: &str, day: Day) -> bool
+        ensures { result ≡ has (asked_in self.now) account.now commodity.now day }
+    {
+        is_of(self.account, account)
+            && (is_commodity(self.commodity, commodity) && is_up_to(self.last, day))
     }
 }
 

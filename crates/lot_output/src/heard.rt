@@ -36,7 +36,9 @@ pub struct Witness<W> {
 
 impl<W> Witness<W> {
     /// Returns a writer that keeps the lines of so many refused commands.
-    pub fn new(alloc: Global, writer: W, most: u64) -> Witness<W> {
+    pub fn new(alloc: Global, writer: W, most: u64) -> Witness<W>
+        ensures { result.writer ≡ writer }
+    {
         Witness {
             writer,
             most,

@@ -16,6 +16,6 @@ mod write_out;
 pub use course::Course;
 pub use heard::{Heard, Witness};
 pub use meter::Meter;
-pub use output::{Output, Pace};
+pub use output::{Ended, Output, Pace};
 pub use record::Record;
 pub use write_out::WriteOut;

@@ -1,6 +1,6 @@
 //! Standard output.
 
-ghost use Rattle.std.specs.Prelude.{◌≡◌, [], OnOk};
+ghost use Rattle.std.specs.Prelude.{◌≡◌, [], IsTrue, OnOk};
 ghost use Rattle.std.specs.Io.Buffered.{writer_buffer, writer_contents, writer_inner};
 ghost use Rattle.std.specs.Io.KnownBytes.{Keeps};
 
@@ -26,6 +26,15 @@ pub struct Output<'a, W: Write + Drop> {
     replies: Meter<'a>,
 }
 
+/// What is left of an output that has ended.
+#[derive(Drop)]
+pub struct Ended<W> {
+    /// What it was an output to.
+    pub writer: W,
+    /// Whether the writer was handed all that was written. Else some of it couldn't be written.
+    pub is_whole: bool,
+}
+
 impl<'a, W: Write + Copy + Drop> Output<'a, W> {
     /// Returns an output to a writer.
     pub fn new(alloc: Global, writer: W, pace: Pace, replies: Meter<'a>) -> Output<'a, W>
@@ -41,15 +50,20 @@ impl<'a, W: Write + Copy + Drop> Output<'a, W> {
 impl<W: Write + Drop> Output<'_, W> {
     /// Ends the line that shows the progress, if there is one, and returns the writer. What is still in the buffer, since it could
     /// not be written, is discarded.
-    pub fn end(self) -> W
-        ensures { result ≡ writer_inner self.entry.buffer }
+    pub fn end(self) -> Ended<W>
+        ensures writer { result.writer ≡ writer_inner self.entry.buffer }
+        ensures whole { IsTrue result.is_whole → W.contents result.writer
+            ≡ writer_contents W.contents self.entry.buffer }
     {
         let Output { buffer, replies } = self;
         let mut replies = replies;
         replies.end();
         // Dropping the buffer would try once more.
-        let (writer, _unwritten) = buffer.into_parts();
-        writer
+        let (writer, unwritten) = buffer.into_parts();
+        Ended {
+            writer,
+            is_whole: unwritten.is_empty(),
+        }
     }
 }
 

@@ -1,9 +1,14 @@
+pub mod DayLemmas
 pub mod EntryLemmas
 pub mod FewLegLemmas
 pub mod FewLemmas
 pub mod FindLemmas
 pub mod FirstLemmas
 pub mod LookLemmas
+pub mod NotedLemmas
+pub mod OneLemmas
+pub mod OrderedLemmas
 pub mod PlaceLemmas
 pub mod RecallLemmas
 pub mod SaidLemmas
+pub mod WantedLemmas

@@ -28,10 +28,10 @@ use Rattle.lot_legs.specs.declared.leg.DatedLeg.{DatedLeg}
 use Rattle.lot_legs.proofs.BookLemmas.{AreNumbered, all_sorted, book_numbers, leg_rows, one_entry_row}
 use Rattle.lot_legs.proofs.OrderLemmas.{legs_up}
 use Rattle.lot_legs.proofs.RowLemmas.{one_leg_row}
-use Rattle.lot_noted.specs.Book.{Narrates, narration_of, noted, noted_legs, noted_legs_of}
+use Rattle.lot_noted.specs.Book.{Narrates, bare, narration_of, noted, noted_legs, noted_legs_of}
 use Rattle.lot_noted.specs.Keys.{key_of}
 use Rattle.lot_noted.specs.declared.key.LegKey.{LegKey}
-use Rattle.lot_noted.proofs.BareLemmas.{IsBefore, bare, bare_legs}
+use Rattle.lot_noted.proofs.BareLemmas.{IsBefore, bare_legs}
 use Rattle.lot_noted.proofs.DayLemmas.{IsPlacedBelow, place_cmp}
 use Rattle.lot_noted.proofs.HeadLemmas.{TellsApart, narrates_own}
 use Rattle.lot_register.specs.declared.leg.NotedLeg.{NotedLeg}

@@ -1,6 +1,6 @@
 -- The keys of the legs of a book, which are taken leg by leg.
 use Rattle.std.specs.Prelude.{◌≡◌, ◌≢◌, true, IfErr, List, map, OnOk, Result, Ok, Err}
-use Rattle.std.proofs.Common.{refl, sym, ap, subst, ◌∙◌}
+use Rattle.std.proofs.Common.{refl, sym, ◌∙◌}
 use Rattle.std.proofs.lemmas.Bool.{true≢false}
 use Rattle.std.proofs.lemmas.List.{map-id}
 use Rattle.sqlite.specs.Store.{Ghosts}
@@ -21,7 +21,7 @@ use Rattle.lot_report.specs.declared.fault.RowFault.TheVariants.{Report, Spent}
 use Rattle.lot_store.specs.declared.book.Book.{Book}
 use Rattle.lot_store.specs.declared.book.Condition.TheVariants.{NeedsReopen as Unusable}
 use Rattle.lot_store.specs.declared.fault.StoreFault.TheVariants.{NeedsReopen}
-use Rattle.lot_store.specs.declared.walk.WalkFault.TheVariants.{Ended, Failed}
+use Rattle.lot_store.specs.declared.walk.WalkFault.TheVariants.{Failed}
 use Rattle.lot_sums.specs.Gather.{Gathers}
 use Rattle.lot_tally.specs.Rows.{Adds}
 
@@ -46,13 +46,19 @@ of_keys asked legs tally (AtRow (Report Memory)) gathers = tt
 of_keys asked legs tally (AtRow (Report Write)) gathers = absurd gathers
 of_keys asked legs tally (AtRow Spent) gathers = gathers
 
--- the legs were read, and their keys are put into their order
+-- a book that was read could be used
+pub was_usable : {S A : Type 0} (g : Ghosts S) (old new : Book S g) (made : A) → ReadsBook {A = A} g old new (Ok made) → old.condition ≢ Unusable
+was_usable {S} {A} g old new made reads spent =
+    let is : ◌≡◌ {A = Result A ShowFault} (Ok made) (Err (AtWalk (Failed NeedsReopen))) = reads.reopen.1 spent in cc
+
+-- a book that was read, and something else is made of that
+pub made_reads : {S A B : Type 0} (g : Ghosts S) (old new : Book S g) (read : A) (made : B) → ReadsBook {A = A} g old new (Ok read)
+    → ReadsBook {A = B} g old new (Ok made)
+made_reads {S} {A} {B} g old new read made reads =
+    reads_whole g {A = B} old new made (was_read g {A = A} old new read reads) (was_usable {A = A} g old new read reads)
+
+-- the rows of a walk were read, and something is made of them
 pub keyed_reads : {S A : Type 0} (g : Ghosts S) (book start later new : Book S g) (done : Unit {0}) (made : A) → start ≡ book → new ≡ later
     → ReadsBook {A = Unit {0}} g start later (Ok done) → ReadsBook {A = A} g book new (Ok made)
-keyed_reads {S} {A} g book start later new done made first last gathers = reads_whole g {A = A} book new made (was_read g {A = Unit {0}} book new done reads) usable
-  where
-    reads : ReadsBook {A = Unit {0}} g book new (Ok done)
-    reads = walked {A = Unit {0}} g book start later new (Ok done) first last gathers
-
-    usable : book.condition ≢ Unusable
-    usable spent = let is : ◌≡◌ {A = Result (Unit {0}) ShowFault} (Ok done) (Err (AtWalk (Failed NeedsReopen))) = reads.reopen.1 spent in cc
+keyed_reads {S} {A} g book start later new done made first last gathers =
+    made_reads {A = Unit {0}} {B = A} g book new done made (walked {A = Unit {0}} g book start later new (Ok done) first last gathers)

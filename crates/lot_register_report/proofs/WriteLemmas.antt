@@ -11,9 +11,9 @@ use Rattle.sqlite.specs.Store.{Ghosts}
 use Rattle.lot_book.specs.Facts.{Entry}
 use Rattle.lot_book_report.specs.declared.fault.ShowFault.{ShowFault}
 use Rattle.lot_book_report.specs.declared.fault.ShowFault.TheVariants.{Row as AtRow, Walk as AtWalk}
-use Rattle.lot_noted.specs.declared.key.LegKey.{LegKey}
-use Rattle.lot_recall.specs.Place.{AreAt, AreRowsAt, IsAnyNoted, IsBehindRecalled, IsBehindRecalledRows, shown_noted}
-use Rattle.lot_recall.specs.declared.place.RecallPlace.{RecallPlace}
+use Rattle.lot_recall.specs.Place.{IsAnyNoted, shown_noted}
+use Rattle.lot_recall.specs.Wanted.{AreWanted, AreWantedRows, IsBehindWanted, IsBehindWantedRows, Wanted}
+use Rattle.lot_recall.specs.declared.register.RegisterPlace.{RegisterPlace}
 use Rattle.lot_register.specs.Left.{row_behind, stays}
 use Rattle.lot_register.specs.Register.{HasTaken, TakesLeg, Terms, foot_lines, head_lines, is_written, lines_of_row, lines_to, register_lines, written_rows}
 use Rattle.lot_register.specs.Text.{header, row_text}
@@ -263,48 +263,48 @@ of_any terms start now result (legs, any, shows) = (legs, shows)
 
 -- ---- legs of a walk
 
-module _ {S : Type 0} (g : Ghosts S) (first : Walk S RecallPlace g) (begun : Register) (start : Option (List ℕ)) where
-  abbrev pub Called : Walk S RecallPlace g → Walk S RecallPlace g → Result (Option NotedLeg) WalkFault → Type 0
-  Called = Walks g shown_noted IsAnyNoted AreAt IsBehindRecalled
+module _ {S : Type 0} (g : Ghosts S) (first : Walk S RegisterPlace g) (begun : Register) (start : Option (List ℕ)) where
+  abbrev pub Called : Walk S RegisterPlace g → Walk S RegisterPlace g → Result (Option NotedLeg) WalkFault → Type 0
+  Called = Walks g shown_noted IsAnyNoted AreWanted IsBehindWanted
 
-  abbrev pub CalledOverRows : Walk S RecallPlace g → Walk S RecallPlace g → Result (Option NotedLeg) WalkFault → Type 0
-  CalledOverRows = WalksOverRows g shown_noted AreRowsAt IsBehindRecalledRows
+  abbrev pub CalledOverRows : Walk S RegisterPlace g → Walk S RegisterPlace g → Result (Option NotedLeg) WalkFault → Type 0
+  CalledOverRows = WalksOverRows g shown_noted AreWantedRows IsBehindWantedRows
 
   -- what is said of the register of the book, of that of some legs, and of that of the rows of the tables
-  abbrev pub Showing : Walk S RecallPlace g → Option (List ℕ) → Result (Unit {0}) ShowFault → Type 0
+  abbrev pub Showing : Walk S RegisterPlace g → Option (List ℕ) → Result (Unit {0}) ShowFault → Type 0
   Showing walk now result =
-      (terms : Terms) → HasTaken terms [] begun → HasCleanDisk (state g walk.book.now.conn) → (keys : List LegKey) (entries : List Entry)
-      → HasGiven g AreAt IsBehindRecalled first keys entries [] → ShowsAll terms start (AreAt keys entries) now result
+      (terms : Terms) → HasTaken terms [] begun → HasCleanDisk (state g walk.book.now.conn) → (wanted : Wanted) (entries : List Entry)
+      → HasGiven g AreWanted IsBehindWanted first wanted entries [] → ShowsAll terms start (AreWanted wanted entries) now result
 
   abbrev pub ShowingSome : Option (List ℕ) → Result (Unit {0}) ShowFault → Type 0
   ShowingSome now result = (terms : Terms) → HasTaken terms [] begun → (legs : List NotedLeg) × ShowsRegister terms legs start now result
 
-  abbrev pub ShowingRows : Walk S RecallPlace g → Option (List ℕ) → Type 0
+  abbrev pub ShowingRows : Walk S RegisterPlace g → Option (List ℕ) → Type 0
   ShowingRows walk now =
-      (terms : Terms) → HasTaken terms [] begun → HasCleanDisk (state g walk.book.now.conn) → (keys : List LegKey) (tables : Tables)
-      → HasGivenRows g IsBehindRecalledRows first keys tables [] → ShowsAll terms start (AreRowsAt keys tables) now (Ok tt)
+      (terms : Terms) → HasTaken terms [] begun → HasCleanDisk (state g walk.book.now.conn) → (wanted : Wanted) (tables : Tables)
+      → HasGivenRows g IsBehindWantedRows first wanted tables [] → ShowsAll terms start (AreWantedRows wanted tables) now (Ok tt)
 
   -- the legs that the walk has given since it began are taken, but for the last one
-  pub record Wrote (walk : Walk S RecallPlace g) (found : Option NotedLeg) (register : Register) (now : Option (List ℕ)) : Type 0 where
+  pub record Wrote (walk : Walk S RegisterPlace g) (found : Option NotedLeg) (register : Register) (now : Option (List ℕ)) : Type 0 where
     pub legs : List NotedLeg
-    pub of_book : HasCleanDisk (state g walk.book.now.conn) → (keys : List LegKey) (entries : List Entry) → HasGiven g AreAt IsBehindRecalled first keys entries []
-        → Gives g shown_noted IsAnyNoted AreAt IsBehindRecalled walk keys entries legs found
-    pub of_rows : HasCleanDisk (state g walk.book.now.conn) → (keys : List LegKey) (tables : Tables) → HasGivenRows g IsBehindRecalledRows first keys tables []
-        → GivesRows g shown_noted AreRowsAt IsBehindRecalledRows walk keys tables legs found
+    pub of_book : HasCleanDisk (state g walk.book.now.conn) → (wanted : Wanted) (entries : List Entry) → HasGiven g AreWanted IsBehindWanted first wanted entries []
+        → Gives g shown_noted IsAnyNoted AreWanted IsBehindWanted walk wanted entries legs found
+    pub of_rows : HasCleanDisk (state g walk.book.now.conn) → (wanted : Wanted) (tables : Tables) → HasGivenRows g IsBehindWantedRows first wanted tables []
+        → GivesRows g shown_noted AreWantedRows IsBehindWantedRows walk wanted tables legs found
     pub fed : (terms : Terms) → HasTaken terms [] begun → HasFed terms start legs register now
 
   -- what was given begins all legs
-  begins : (walk : Walk S RecallPlace g) (keys : List LegKey) (entries : List Entry) (given : List NotedLeg) (found : Option NotedLeg)
-      → Gives g shown_noted IsAnyNoted AreAt IsBehindRecalled walk keys entries given found → (rest : List NotedLeg) × AreAt keys entries (given ++ rest)
-  begins walk keys entries given (Some leg) has =
-      (leg ∷ has.prefix.0, subst (AreAt keys entries) (append_assoc given (leg ∷ []) has.prefix.0) has.prefix.1)
-  begins walk keys entries given None all = ([], subst (AreAt keys entries) (sym (append-nil given)) all)
+  begins : (walk : Walk S RegisterPlace g) (wanted : Wanted) (entries : List Entry) (given : List NotedLeg) (found : Option NotedLeg)
+      → Gives g shown_noted IsAnyNoted AreWanted IsBehindWanted walk wanted entries given found → (rest : List NotedLeg) × AreWanted wanted entries (given ++ rest)
+  begins walk wanted entries given (Some leg) has =
+      (leg ∷ has.prefix.0, subst (AreWanted wanted entries) (append_assoc given (leg ∷ []) has.prefix.0) has.prefix.1)
+  begins walk wanted entries given None all = ([], subst (AreWanted wanted entries) (sym (append-nil given)) all)
 
   -- ---- before the first leg
 
-  module _ (after : Walk S RecallPlace g) where
+  module _ (after : Walk S RegisterPlace g) where
     pub walk_not_begun : (fault : StoreFault) → Showing after start (Err (AtWalk (Failed fault)))
-    walk_not_begun fault = λ terms fresh clean keys entries has. not_begun terms start (AreAt keys entries) has.prefix fault
+    walk_not_begun fault = λ terms fresh clean wanted entries has. not_begun terms start (AreWanted wanted entries) has.prefix fault
 
     pub some_not_begun : (fault : StoreFault) → ShowingSome start (Err (AtWalk (Failed fault)))
     some_not_begun fault = λ terms fresh. of_any terms start start (Err (AtWalk (Failed fault))) (not_begun terms start AreAny ([], tt) fault)
@@ -312,7 +312,7 @@ module _ {S : Type 0} (g : Ghosts S) (first : Walk S RecallPlace g) (begun : Reg
     module _ (now : Option (List ℕ)) (fault : PrintFault)
         (part : (terms : Terms) (legs : List NotedLeg) → HasTaken terms legs begun → WritesEach (λ (text : List ℕ). text) (head_lines terms.0) start now (Err fault)) where
       pub walk_no_head : Showing after now (Err (AtRow (Report (report_fault fault))))
-      walk_no_head = λ terms fresh clean keys entries has. no_head terms start (AreAt keys entries) has.prefix now fault (part terms [] fresh)
+      walk_no_head = λ terms fresh clean wanted entries has. no_head terms start (AreWanted wanted entries) has.prefix now fault (part terms [] fresh)
 
       pub some_no_head : ShowingSome now (Err (AtRow (Report (report_fault fault))))
       some_no_head = λ terms fresh. of_any terms start now (Err (AtRow (Report (report_fault fault)))) (no_head terms start AreAny ([], tt) now fault (part terms [] fresh))
@@ -322,20 +322,20 @@ module _ {S : Type 0} (g : Ghosts S) (first : Walk S RecallPlace g) (begun : Reg
         → Wrote after found begun now
     walk_begun found now walks rows done wrote = record {
       legs = [];
-      of_book = λ clean keys entries has. walks.gives clean keys entries [] has;
-      of_rows = λ clean keys tables has. rows clean keys tables [] has;
+      of_book = λ clean wanted entries has. walks.gives clean wanted entries [] has;
+      of_rows = λ clean wanted tables has. rows clean wanted tables [] has;
       fed = λ terms fresh. fed_none terms start begun now fresh (wrote terms [] fresh);
     }
 
   -- ---- behind some legs
 
-  module _ (walk : Walk S RecallPlace g) (register : Register) (now : Option (List ℕ)) where
+  module _ (walk : Walk S RegisterPlace g) (register : Register) (now : Option (List ℕ)) where
     -- memory ends beside the book
     module _ (found : Option NotedLeg) (wrote : Wrote walk found register now) where
       pub walk_short : (fault : StoreFault) → Showing walk now (Err (AtWalk (Failed fault)))
-      walk_short fault = λ terms fresh clean keys entries has.
-          stopped terms start wrote.legs register now (wrote.fed terms fresh) (AreAt keys entries) fault
-          (begins walk keys entries wrote.legs found (wrote.of_book clean keys entries has))
+      walk_short fault = λ terms fresh clean wanted entries has.
+          stopped terms start wrote.legs register now (wrote.fed terms fresh) (AreWanted wanted entries) fault
+          (begins walk wanted entries wrote.legs found (wrote.of_book clean wanted entries has))
 
       pub some_short : (fault : StoreFault) → ShowingSome now (Err (AtWalk (Failed fault)))
       some_short fault = λ terms fresh.
@@ -346,9 +346,9 @@ module _ {S : Type 0} (g : Ghosts S) (first : Walk S RecallPlace g) (begun : Reg
       module _ (done : Unit {0}) (more : (terms : Terms) (legs : List NotedLeg) → HasTaken terms legs register
           → WritesEach (λ (text : List ℕ). text) (foot_lines terms.0 (written_rows terms.1 legs)) now later (Ok done)) where
         pub walk_whole : Showing walk later (Ok tt)
-        walk_whole = λ terms fresh clean keys entries has.
+        walk_whole = λ terms fresh clean wanted entries has.
             let fed = wrote.fed terms fresh in
-            whole terms start wrote.legs register now fed (AreAt keys entries) later done (wrote.of_book clean keys entries has) (more terms wrote.legs fed.taken)
+            whole terms start wrote.legs register now fed (AreWanted wanted entries) later done (wrote.of_book clean wanted entries has) (more terms wrote.legs fed.taken)
 
         pub some_whole : ShowingSome later (Ok tt)
         some_whole = λ terms fresh.
@@ -356,16 +356,16 @@ module _ {S : Type 0} (g : Ghosts S) (first : Walk S RecallPlace g) (begun : Reg
             of_any terms start later (Ok tt) (whole terms start wrote.legs register now fed AreAny later done tt (more terms wrote.legs fed.taken))
 
         pub rows_whole : ShowingRows walk later
-        rows_whole = λ terms fresh clean keys tables has.
+        rows_whole = λ terms fresh clean wanted tables has.
             let fed = wrote.fed terms fresh in
-            whole terms start wrote.legs register now fed (AreRowsAt keys tables) later done (wrote.of_rows clean keys tables has) (more terms wrote.legs fed.taken)
+            whole terms start wrote.legs register now fed (AreWantedRows wanted tables) later done (wrote.of_rows clean wanted tables has) (more terms wrote.legs fed.taken)
 
       module _ (fault : PrintFault) (part : (terms : Terms) (legs : List NotedLeg) → HasTaken terms legs register
           → WritesEach (λ (text : List ℕ). text) (foot_lines terms.0 (written_rows terms.1 legs)) now later (Err fault)) where
         pub walk_cut_at_end : Showing walk later (Err (AtRow (Report (report_fault fault))))
-        walk_cut_at_end = λ terms fresh clean keys entries has.
+        walk_cut_at_end = λ terms fresh clean wanted entries has.
             let fed = wrote.fed terms fresh in
-            cut_at_end terms start wrote.legs register now fed (AreAt keys entries) later fault (wrote.of_book clean keys entries has) (part terms wrote.legs fed.taken)
+            cut_at_end terms start wrote.legs register now fed (AreWanted wanted entries) later fault (wrote.of_book clean wanted entries has) (part terms wrote.legs fed.taken)
 
         pub some_cut_at_end : ShowingSome later (Err (AtRow (Report (report_fault fault))))
         some_cut_at_end = λ terms fresh.
@@ -380,9 +380,9 @@ module _ {S : Type 0} (g : Ghosts S) (first : Walk S RecallPlace g) (begun : Reg
       -- its row isn't written, or not all of it
       module _ (fault : ReportFault) (takes : Takes (Err fault)) where
         pub walk_cut : Showing walk later (Err (AtRow (Report fault)))
-        walk_cut = λ terms fresh clean keys entries has.
+        walk_cut = λ terms fresh clean wanted entries has.
             let fed = wrote.fed terms fresh in
-            cut terms start wrote.legs register now fed (AreAt keys entries) leg behind later fault (wrote.of_book clean keys entries has).prefix
+            cut terms start wrote.legs register now fed (AreWanted wanted entries) leg behind later fault (wrote.of_book clean wanted entries has).prefix
             (takes terms wrote.legs fed.taken)
 
         pub some_cut : ShowingSome later (Err (AtRow (Report fault)))
@@ -398,26 +398,26 @@ module _ {S : Type 0} (g : Ghosts S) (first : Walk S RecallPlace g) (begun : Reg
             fed_more terms start wrote.legs register now fed leg behind later done (takes terms wrote.legs fed.taken)
 
         -- the book stops
-        pub walk_stopped : (after : Walk S RecallPlace g) (at : WalkFault) → Called walk after (Err at) → (fault : StoreFault)
+        pub walk_stopped : (after : Walk S RegisterPlace g) (at : WalkFault) → Called walk after (Err at) → (fault : StoreFault)
             → Showing after later (Err (AtWalk (Failed fault)))
-        walk_stopped after at walks fault = λ terms fresh clean keys entries has.
+        walk_stopped after at walks fault = λ terms fresh clean wanted entries has.
             let was = early (state g walk.book.now.conn) (state g after.book.now.conn) walks.crash clean in
-            stopped terms start (wrote.legs ++ leg ∷ []) behind later (fed_with terms fresh) (AreAt keys entries) fault (wrote.of_book was keys entries has).prefix
+            stopped terms start (wrote.legs ++ leg ∷ []) behind later (fed_with terms fresh) (AreWanted wanted entries) fault (wrote.of_book was wanted entries has).prefix
 
         pub some_stopped : (fault : StoreFault) → ShowingSome later (Err (AtWalk (Failed fault)))
         some_stopped fault = λ terms fresh.
             of_any terms start later (Err (AtWalk (Failed fault))) (stopped terms start (wrote.legs ++ leg ∷ []) behind later (fed_with terms fresh) AreAny fault ([], tt))
 
         -- the walk goes on
-        pub walk_grown : (after : Walk S RecallPlace g) (found : Option NotedLeg) → Called walk after (Ok found) → CalledOverRows walk after (Ok found)
+        pub walk_grown : (after : Walk S RegisterPlace g) (found : Option NotedLeg) → Called walk after (Ok found) → CalledOverRows walk after (Ok found)
             → Wrote after found behind later
         walk_grown after found walks rows = record {
           legs = wrote.legs ++ leg ∷ [];
-          of_book = λ clean keys entries has.
+          of_book = λ clean wanted entries has.
               let was = early (state g walk.book.now.conn) (state g after.book.now.conn) walks.crash clean in
-              walks.gives clean keys entries (wrote.legs ++ leg ∷ []) (wrote.of_book was keys entries has);
-          of_rows = λ clean keys tables has.
+              walks.gives clean wanted entries (wrote.legs ++ leg ∷ []) (wrote.of_book was wanted entries has);
+          of_rows = λ clean wanted tables has.
               let was = early (state g walk.book.now.conn) (state g after.book.now.conn) walks.crash clean in
-              rows clean keys tables (wrote.legs ++ leg ∷ []) (wrote.of_rows was keys tables has);
+              rows clean wanted tables (wrote.legs ++ leg ∷ []) (wrote.of_rows was wanted tables has);
           fed = fed_with;
         }

@@ -1,18 +1,22 @@
 -- The register of accounts of a book, written as its legs are read (docs/FORMATS.md, Register).
-use Rattle.std.specs.Prelude.{◌≡◌, ◌⊎◌, ℕ, ℤ, IsTrue, not, List, [], ◌∷◌, ◌++◌, map, OnOk, Option, Result, Ok, Err, ⊤}
+use Rattle.std.specs.Prelude.{◌≡◌, ◌⊎◌, ℕ, ℤ, IsTrue, not, List, [], ◌∷◌, ◌++◌, OnOk, Option, None, Some, Result, Ok, Err, ⊤}
 use Rattle.std.specs.Io.KnownBytes.{Appends}
+use Rattle.std.specs.List.{AllByRecursion}
 use Rattle.lot_book.specs.Facts.{Entry}
 use Rattle.lot_book_report.specs.declared.fault.ShowFault.{ShowFault}
 use Rattle.lot_book_report.specs.declared.fault.ShowFault.TheVariants.{Row as AtRow, Walk as AtWalk}
-use Rattle.lot_legs.specs.Legs.{AreAllLegRows, dated_legs}
+use Rattle.lot_legs.specs.Legs.{AreAllLegRows, dated_legs, is_by}
 use Rattle.lot_legs.specs.declared.leg.DatedLeg.{DatedLeg}
-use Rattle.lot_noted.specs.Book.{Asked}
+use Rattle.lot_noted.specs.Book.{Asked, NeverFall, register_legs}
 use Rattle.lot_noted.specs.Keys.{AreInOrder, HasTaken as HasTakenKeys}
 use Rattle.lot_noted.specs.declared.key.LegKey.{LegKey}
 use Rattle.lot_recall.specs.Place.{AreRowsAt}
+use Rattle.lot_recall.specs.Wanted.{AreWanted, AreWantedRows, IsBehindWanted, IsBehindWantedRows, Wanted}
+use Rattle.lot_recall.specs.declared.register.RegisterPlace.{RegisterPlace}
 use Rattle.lot_register.specs.Left.{stays}
 use Rattle.lot_register.specs.Register.{Terms, lines_to, register_lines}
 use Rattle.lot_register.specs.declared.leg.NotedLeg.{NotedLeg}
+use Rattle.lot_register_report.specs.declared.days.DayTally.{DayTally}
 use Rattle.lot_register_report.specs.declared.keys.KeyTally.{KeyTally}
 use Rattle.lot_report.specs.Fed.{joined}
 use Rattle.lot_report.specs.Report.{EachFits}
@@ -21,6 +25,8 @@ use Rattle.lot_report.specs.declared.fault.ReportFault.TheVariants.{Memory, Rang
 use Rattle.lot_report.specs.declared.fault.RowFault.TheVariants.{Report, Spent}
 use Rattle.lot_rows.specs.Tables.{Tables}
 use Rattle.lot_store.specs.declared.walk.WalkFault.TheVariants.{Ended, Failed}
+use Rattle.lot_stored.specs.StandFor.{StandFor}
+use Rattle.lot_walk.specs.Step.{IsPrefix}
 
 -- ---- the keys
 
@@ -39,6 +45,39 @@ HasTaken asked legs tally = HasTakenKeys asked legs tally.keys
 -- keys are taken, and none is written
 abbrev pub AreNoLines : Asked → List DatedLeg → List (List ℕ) → Type 0
 AreNoLines asked legs lines = lines ≡ []
+
+-- ---- the days
+
+-- no day is later than the last one
+abbrev pub AreUpTo : Option ℤ → List ℤ → Type 0
+AreUpTo None days = days ≡ []
+AreUpTo (Some last) days = AllByRecursion (λ (day : ℤ). IsTrue (is_by last day)) days
+
+-- these days were taken, and it is known whether they never fall
+abbrev pub HasTakenDays : Unit {0} → List ℤ → DayTally → Type 0
+HasTakenDays asked days tally = IsTrue tally.never_fall → NeverFall days × AreUpTo tally.last days
+
+-- days are taken, and none is written
+abbrev pub AreNoDayLines : Unit {0} → List ℤ → List (List ℕ) → Type 0
+AreNoDayLines asked days lines = lines ≡ []
+
+-- ---- where a walk begins
+
+-- a place stands before the legs of a register
+pub record BeginsLegs (asked : Asked) (entries : List Entry) (place : RegisterPlace) : Type 0 where
+  pub wanted : Wanted
+  pub begins : (tables : Tables) → StandFor tables entries → IsPrefix AreWanted wanted entries [] × IsBehindWanted place tables wanted entries []
+  pub are : (legs : List NotedLeg) → AreWanted wanted entries legs → legs ≡ register_legs asked entries
+
+-- rows of the tables that say legs, at the keys of those that are asked for
+abbrev pub AreLegsOfRows : Asked → Tables → List NotedLeg → Type 0
+AreLegsOfRows asked tables legs = (keys : List LegKey) × AreKeysOfRows asked tables keys × AreRowsAt keys tables legs
+
+-- the same of the rows of the tables, whatever these stand for
+pub record BeginsRows (asked : Asked) (tables : Tables) (place : RegisterPlace) : Type 0 where
+  pub wanted : Wanted
+  pub begins : IsBehindWantedRows place tables wanted []
+  pub are : (legs : List NotedLeg) → AreWantedRows wanted tables legs → AreLegsOfRows asked tables legs
 
 -- the fault is one of the book, or of memory
 abbrev pub IsOfKeys : ShowFault → Type 0

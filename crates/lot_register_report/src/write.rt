@@ -3,8 +3,8 @@ ghost use Rattle.lot_book.specs.Facts.{Entry};
 ghost use Rattle.lot_book_report.specs.Fault.{HasCause};
 ghost use Rattle.lot_book_report.specs.Show.{ReadsBook};
 ghost use Rattle.lot_io.specs.Writes.{writes_between};
-ghost use Rattle.lot_noted.specs.declared.key.LegKey.{LegKey as LegKeyOf};
-ghost use Rattle.lot_recall.specs.Place.{AreAt, AreRowsAt, IsBehindRecalled, IsBehindRecalledRows};
+ghost use Rattle.lot_recall.specs.Wanted.{AreWanted, AreWantedRows, IsBehindWanted, IsBehindWantedRows};
+ghost use Rattle.lot_recall.specs.Wanted.{Wanted};
 ghost use Rattle.lot_register.specs.Register.{HasTaken, Terms};
 ghost use Rattle.lot_register.specs.declared.leg.NotedLeg.{NotedLeg as NotedLegOf};
 ghost use Rattle.lot_register_report.specs.Show.{ShowsRegister};
@@ -17,7 +17,7 @@ ghost use Rattle.sqlite.specs.State.{HasCleanDisk};
 
 use lot_book_report::ShowFault;
 use lot_io::CountedWrite;
-use lot_recall::RecallPlace;
+use lot_recall::RegisterPlace;
 use lot_register::Register;
 use lot_report::RowFault;
 use lot_store::{StoreFault, Walk};
@@ -29,28 +29,28 @@ use sqlite::Alter;
 /// Where the book stops, the rows of the legs read before are written, and nothing behind them.
 /// Where it stops before the first leg, nothing is written, not even the names of the columns.
 pub(crate) fn write_register<S: Alter, W: CountedWrite>(
-    walk: &mut Walk<'_, S, RecallPlace>,
+    walk: &mut Walk<'_, S, RegisterPlace>,
     register: &mut Register,
     writer: &mut W,
 ) -> Result<(), ShowFault>
     requires going { walk.old.stage ≡ Going }
     requires begun { HasCleanDisk (state S.Store walk.old.book.now.conn) → (entries : List Entry)
-        → Stands (state S.Store walk.old.book.now.conn) entries → (keys : List LegKeyOf)
-        × HasGiven S.Store AreAt IsBehindRecalled walk.old keys entries [] }
+        → Stands (state S.Store walk.old.book.now.conn) entries → (wanted : Wanted)
+        × HasGiven S.Store AreWanted IsBehindWanted walk.old wanted entries [] }
     ensures same_reference { walk.new.book.ghost_name ≡ walk.old.book.ghost_name }
     ensures shows { (terms : Terms) → HasTaken terms [] register.old
         → HasCleanDisk (state S.Store walk.new.book.now.conn)
-        → (keys : List LegKeyOf) (entries : List Entry)
-        → HasGiven S.Store AreAt IsBehindRecalled walk.old keys entries []
-        → (legs : List NotedLegOf) × AreAt keys entries legs
+        → (wanted : Wanted) (entries : List Entry)
+        → HasGiven S.Store AreWanted IsBehindWanted walk.old wanted entries []
+        → (legs : List NotedLegOf) × AreWanted wanted entries legs
         × ShowsRegister terms legs (W.contents writer.old) (W.contents writer.new) result }
     ensures some { (terms : Terms) → HasTaken terms [] register.old → (legs : List NotedLegOf)
         × ShowsRegister terms legs (W.contents writer.old) (W.contents writer.new) result }
     ensures rows { (terms : Terms) → HasTaken terms [] register.old
         → HasCleanDisk (state S.Store walk.new.book.now.conn)
-        → (keys : List LegKeyOf) (tables : Tables)
-        → HasGivenRows S.Store IsBehindRecalledRows walk.old keys tables []
-        → OnOk result ((legs : List NotedLegOf) × AreRowsAt keys tables legs
+        → (wanted : Wanted) (tables : Tables)
+        → HasGivenRows S.Store IsBehindWantedRows walk.old wanted tables []
+        → OnOk result ((legs : List NotedLegOf) × AreWantedRows wanted tables legs
         × ShowsRegister terms legs (W.contents writer.old) (W.contents writer.new) result) }
     ensures reads { ReadsBook S.Store walk.old.book.now walk.new.book.now result }
     ensures cause { HasCause result (writes_between (W.calls writer.old) (W.calls writer.new)) }

@@ -27,10 +27,10 @@ use std::alloc::{AllocError, Global};
 use std::collections::BTreeMap;
 
 /// What tells a row from others: the text of its keys, and its currency.
-pub(crate) type RowKey = (String, Commodity);
+pub type RowKey = (String, Commodity);
 
 /// The rows, in the order of their keys.
-type Rows = BTreeMap<RowKey, RowSums>;
+pub(crate) type Rows = BTreeMap<RowKey, RowSums>;
 
 /// What the sales so far come to.
 #[derive(Drop)]
@@ -48,6 +48,13 @@ impl Counted {
             rows: BTreeMap::new(alloc),
             totals: Totals::new(alloc),
         }
+    }
+
+    /// Returns the rows.
+    pub fn rows(&self) -> &Rows
+        ensures { result.now ≡ self.now.rows }
+    {
+        &self.rows
     }
 
     /// Adds the lots of a sale to their rows, and its gain, if it has one, to the total in its

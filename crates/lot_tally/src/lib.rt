@@ -18,5 +18,7 @@ mod table;
 mod text;
 mod totals;
 
+pub use counted::RowKey;
 pub use key::{GainKey, TableForm};
+pub use sums::RowSums;
 pub use table::GainsTable;

@@ -7,7 +7,7 @@ use lot_num::Wide;
 /// What the lots of a row come to: those with a gain, and beside them those without one, whose
 /// sales are unpriced.
 #[derive(Clone, Copy, Debug, PartialEq, Eq)]
-pub(crate) struct RowSums {
+pub struct RowSums {
     /// How many lots have a gain.
     pub priced_lots: u64,
     /// What these went for.

@@ -2,17 +2,20 @@ ghost use Rattle.std.specs.Prelude.{◌≡◌, ◌∷◌, ◌++◌, [], ℕ, IsE
 ghost use Rattle.lot_book.specs.Sale.{SaleParts};
 ghost use Rattle.lot_io.specs.Writes.{HasFailed, NoneFailed};
 ghost use Rattle.lot_report.specs.Written.{WritesEach};
+ghost use Rattle.lot_tally.specs.Lots.{all_lots};
 ghost use Rattle.lot_tally.specs.Rows.{Adds};
-ghost use Rattle.lot_tally.specs.Table.{IsEnd, IsTable, fits};
+ghost use Rattle.lot_tally.specs.Table.{HasRows, IsEnd, IsTable, fits};
 ghost use Rattle.lot_tally.specs.declared.key.GainKey.{GainKey as GainKeyOf};
 ghost use Rattle.lot_tally.specs.declared.key.TableForm.{TableForm as TableFormOf};
 
-use crate::counted::Counted;
+use crate::counted::{Counted, RowKey};
 use crate::key::{GainKey, TableForm};
+use crate::sums::RowSums;
 use lot_book::Sale;
 use lot_io::CountedWrite;
 use lot_report::{PrintFault, ReportFault};
 use std::alloc::Global;
+use std::collections::BTreeMap;
 
 /// A table of what sales gained, lot by lot: a row for each combination of keys and currency, with
 /// its lots, what they went for, what they cost and what they gained. Lots of unpriced sales are
@@ -52,6 +55,15 @@ impl<'a> GainsTable<'a> {
             (IsTable by form (sales ++ sale.now ∷ []) self.new) result }
     {
         self.counted.add(self.alloc, self.by, self.form, sale)
+    }
+
+    /// Returns the rows of all sales so far, in the order of their keys. The text of the keys of a row
+    /// has behind each field what separates it from the next one.
+    pub fn rows(&self) -> &BTreeMap<RowKey, RowSums>
+        ensures { (by : List GainKeyOf) (form : TableFormOf) (sales : List SaleParts)
+            → IsTable by form sales self.now → HasRows (all_lots by form sales) result.now }
+    {
+        self.counted.rows()
     }
 
     /// Writes the table of all sales so far. As text it ends with what all of them gained in each

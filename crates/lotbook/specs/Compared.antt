@@ -1,25 +1,33 @@
 -- What a comparison of a new book with an old one comes to, and what a book that can't be taken up comes to.
-use Rattle.std.specs.Prelude.{◌≡◌, ◌⊎◌, ℕ, List, Option, Result, Ok, Err, IsTrue, None, Some}
+use Rattle.std.specs.Prelude.{◌≡◌, ◌⊎◌, ℕ, Bool, List, Option, Result, Ok, Err, IsTrue, None, Some}
 use Rattle.sqlite.specs.Held.{Held, state}
 use Rattle.sqlite.specs.State.{HasCleanDisk}
 use Rattle.sqlite.specs.Store.{Ghosts}
 use Rattle.lot_cli.specs.Differ.{TellsDifferences}
 use Rattle.lot_cli.specs.Says.{Halts, told}
 use Rattle.lot_cli.specs.declared.halt.Halt.TheVariants as halt
-use Rattle.lot_io.specs.Writes.{WritesMade}
+use Rattle.lot_io.specs.Writes.{WriteCalls}
 use Rattle.lot_store.specs.Create.{TellsOf}
 use Rattle.lot_store.specs.declared.book.Book.{Book}
 use Rattle.lot_store.specs.declared.fault.AdoptFault.{AdoptFault}
 use Rattle.lot_store.specs.declared.fault.AdoptFault.TheVariants.{NotABook}
 use Rattle.lot_stream.specs.Status.{code_of}
 use Rattle.lot_stream.specs.declared.status.Status.{Status}
+use Rattle.lotbook.specs.Answered.{IsHandedOn, writes_from_none}
 
--- why a book isn't taken up is reported, with that status
+-- why a book isn't taken up is reported, with that status; the writer then holds that, where all was handed on
+pub record Reports (fault : AdoptFault) (before written : Option (List ℕ)) (all : Bool) (status : ℕ) : Type 0 where
+  pub line : Option (List ℕ)
+  pub wrote : WriteCalls
+  pub says : Halts (halt.Adopt fault) before line (writes_from_none wrote) (told status (Some (halt.Adopt fault)))
+  pub handed_on : IsTrue all → written ≡ line
+
+-- the same to some writer: standard output
 pub record IsReported (fault : AdoptFault) (status : ℕ) : Type 0 where
   pub before : Option (List ℕ)
   pub written : Option (List ℕ)
-  pub calls : WritesMade
-  pub says : Halts (halt.Adopt fault) before written calls (told status (Some (halt.Adopt fault)))
+  pub all : Bool
+  pub reports : Reports fault before written all status
 
 -- a new book isn't taken up for that reason: nothing is told where none was made, else it is reported
 abbrev pub IsNoneTold : AdoptFault → ℕ → ℕ → Type 0
@@ -56,16 +64,23 @@ module _ {S : Type 0} (g : Ghosts S) where
     pub same : status ≡ served
 
 module _ {S T : Type 0} (g : Ghosts S) (h : Ghosts T) where
-  -- how two books differ is told, behind what ended with a status
-  pub record TellsBeside (new : Book S g) (old : Book T h) (served status : ℕ) : Type 0 where
+  -- How two books differ is told, behind what ended with a status. The writer then holds that, or the program is stopped.
+  pub record WritesBeside (new : Book S g) (old : Book T h) (before written : Option (List ℕ)) (served status : ℕ) : Type 0 where
     pub new_left : Book S g
     pub old_left : Book T h
     pub end : Status
     pub ended : code_of end ≡ served
+    pub told : Option (List ℕ)
+    pub wrote : WriteCalls
+    pub code : ℕ
+    pub differ : TellsDifferences g h new new_left old old_left end before told (writes_from_none wrote) code
+    pub handed_on : IsHandedOn code told status written
+
+  -- the same to some writer: standard output
+  pub record TellsBeside (new : Book S g) (old : Book T h) (served status : ℕ) : Type 0 where
     pub before : Option (List ℕ)
     pub written : Option (List ℕ)
-    pub calls : WritesMade
-    pub differ : TellsDifferences g h new new_left old old_left end before written calls status
+    pub tells : WritesBeside new old before written served status
 
   -- the old book is taken up, and how they differ is told
   pub record IsBeside (new : Book S g) (opened : Held T) (served status : ℕ) : Type 0 where

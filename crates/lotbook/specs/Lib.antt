@@ -1,4 +1,5 @@
 pub mod Answered
 pub mod Compared
+pub mod Opened
 pub mod Shown
 pub mod Statuses

@@ -1,11 +1,14 @@
 //! A call of the program answered: its action is served, and standard error says what there is to say of it.
 
-ghost use Rattle.std.specs.Prelude.{◌≡◌, None, false};
+ghost use Rattle.std.specs.Prelude.{◌≡◌, if◌then◌else◌, None, false};
+ghost use Rattle.std.specs.Io.Buffered.{writer_contents};
 ghost use Rattle.sqlite.specs.Held.{state};
-ghost use Rattle.lot_io.specs.Reader.{reader_of};
+ghost use Rattle.lot_io.specs.Reads.{reads_between};
+ghost use Rattle.lot_io.specs.Writes.{writes_between};
 ghost use Rattle.lot_args.specs.Preview.{preview_of};
 ghost use Rattle.lot_call.specs.Looks.{IsLookedAt};
-ghost use Rattle.lotbook.specs.Answered.{IsAnswered, IsServed};
+ghost use Rattle.lot_host.specs.Answers.{stopped};
+ghost use Rattle.lotbook.specs.Answered.{AnswersOnSome, IsAnswered, IsServed};
 
 use crate::keeper::{Keep, Keeper};
 use lot_book::Verdict;
@@ -20,20 +23,55 @@ use lot_cli::{
 };
 use lot_command::Key;
 use lot_completion::{Note, Watch};
-use lot_output::{Heard, Meter, Output, Pace, Record, Witness, WriteOut};
+use lot_io::{CountedRead, CountedWrite};
+use lot_output::{Ended, Heard, Meter, Output, Pace, Record, Witness};
 use lot_rounding::Asked;
+use lot_stream::STOPPED;
 use lot_table::Queryable;
 use lot_verify::say_where;
 use sqlite::{Alter, Connection};
-use std::io::{Read, Stdout};
+use std::io::{Read, Stdout, Write};
 
-/// Does what a call is for on the book that the connection leads to, with standard input, and says on
-/// standard error what there is to say of it. The book is only looked at then.
-pub fn answer<S: Alter>(call: &Call<'_>, conn: Connection<S>) -> Served<S>
+/// Does what a call is for on the book that the connection leads to, with standard input and standard output. Returns the status of
+/// the program, and the connection.
+pub fn answer_on_streams<S: Alter>(call: &Call<'_>, conn: Connection<S>) -> (u8, Connection<S>)
     requires outside { conn.in_transaction ≡ false }
     requires unlimited { conn.step_limit ≡ None }
-    ensures { IsAnswered (state S.Store) call.now.action.now (preview_of call.now.effect)
-        conn result.conn result.status }
+    ensures { AnswersOnSome (state S.Store) call.now.action.now (preview_of call.now.effect)
+        conn result.1 result.0 }
+{
+    let Answered {
+        status,
+        conn,
+        writer: _,
+    } = answer(call, call.rt.reader(), output_of(call), conn);
+    (status, conn)
+}
+
+/// What is left of a call that was answered.
+struct Answered<S: Alter, W> {
+    /// The status of the program.
+    status: u8,
+    conn: Connection<S>,
+    /// What the output was written to.
+    writer: W,
+}
+
+/// Does what a call is for on the book that the connection leads to, with an input and an output, and says
+/// on standard error what there is to say of it. The book is only looked at then.
+///
+/// Where not all that there is to write can be handed to the writer, the status is 4.
+fn answer<R: Read + Drop, W: Write + Drop, S: Alter>(
+    call: &Call<'_>,
+    input: R,
+    output: Output<'_, W>,
+    conn: Connection<S>,
+) -> Answered<S, W>
+    requires outside { conn.in_transaction ≡ false }
+    requires unlimited { conn.step_limit ≡ None }
+    ensures { IsAnswered (state S.Store) (R.remaining input)
+        (writer_contents W.contents output.entry.buffer) (W.contents result.writer)
+        call.now.action.now (preview_of call.now.effect) conn result.conn result.status }
 {
     let alloc = call.rt.alloc();
     let keep = if call.is_quiet() {
@@ -41,24 +79,32 @@ pub fn answer<S: Alter>(call: &Call<'_>, conn: Connection<S>) -> Served<S>
     } else {
         Keep::TakenBack
     };
-    let mut reader = Keeper::new(alloc, call.rt.reader(), keep);
-    let appraiser = Appraiser::new(call, output_of(call));
-    let mut writer = Witness::new(alloc, appraiser, call.most());
+    let mut reader = Keeper::new(alloc, input, keep);
+    let appraiser = Appraiser::new(call, output);
+    let mut writer = CountedWriter::new(Witness::new(alloc, appraiser, call.most()));
     let mut watched = Watched::of(call);
-    let mut served = do_quietly(call, &mut reader, &mut writer, &mut watched, conn);
+    let Served {
+        status,
+        halt,
+        mut conn,
+    } = do_quietly(call, &mut reader, &mut writer, &mut watched, conn);
     reader.free_room();
-    let (appraiser, heard) = writer.into_parts();
+    let (appraiser, heard) = writer.into_writer().into_parts();
     let output = appraiser.say_unpriced(call, &heard);
-    output.end();
-    speak(
-        call,
-        &reader.kept,
-        &heard,
-        &mut watched,
-        served.halt,
-        &mut served.conn,
-    );
-    served
+    let Ended { writer, is_whole } = output.end();
+    speak(call, &reader.kept, &heard, &mut watched, halt, &mut conn);
+    Answered {
+        status: status_behind(status, is_whole),
+        conn,
+        writer,
+    }
+}
+
+/// Returns the status of a call that ended with this one, by whether all that it wrote was handed to the writer.
+pub fn status_behind(status: u8, is_whole: bool) -> u8
+    ensures { result ≡ (if is_whole then status else stopped) }
+{
+    if is_whole { status } else { STOPPED }
 }
 
 /// Returns standard output, for what a call is for: the replies of a run are written out at once, and a meter counts them.
@@ -72,21 +118,22 @@ fn output_of<'a>(call: &Call<'a>) -> Output<'a, Stdout> {
 }
 
 /// Does what a call is for, and says nothing of it.
-fn do_quietly<R: Read, W: WriteOut, S: Alter>(
+fn do_quietly<R: CountedRead, W: CountedWrite, S: Alter>(
     call: &Call<'_>,
-    reader: &mut Keeper<R>,
-    writer: &mut Witness<W>,
+    reader: &mut R,
+    writer: &mut W,
     watched: &mut Watched,
     conn: Connection<S>,
 ) -> Served<S>
     requires outside { conn.in_transaction ≡ false }
     requires unlimited { conn.step_limit ≡ None }
-    ensures { IsServed (state S.Store) (R.remaining (reader_of reader.old.reader))
-        (R.remaining (reader_of reader.new.reader))
+    ensures { IsServed (state S.Store) (R.remaining reader.old) (R.remaining reader.new)
+        (reads_between (R.calls reader.old) (R.calls reader.new))
+        (W.contents writer.old) (W.contents writer.new)
+        (writes_between (W.calls writer.old) (W.calls writer.new))
         call.now.action.now (preview_of call.now.effect) conn
         result.conn result.status result.halt }
 {
-    let mut output = CountedWriter::new(writer);
     let mut watcher = Watcher {
         call,
         legs: Meter::of_legs(call.rt),
@@ -97,7 +144,7 @@ fn do_quietly<R: Read, W: WriteOut, S: Alter>(
         call.action,
         call.effect.preview(),
         reader,
-        &mut output,
+        writer,
         &mut watcher,
         conn,
     )

@@ -1,25 +1,26 @@
 //! The old book beside which a new one is made of a dump, and how they differ.
 
 ghost use Rattle.std.specs.Prelude.{◌≡◌, ◌≤◌, IfErr, IfOk, None, false};
+ghost use Rattle.std.specs.Io.Buffered.{writer_contents};
 ghost use Rattle.sqlite.specs.Files.{over_files};
 ghost use Rattle.lot_host.specs.Answers.{stopped};
 ghost use Rattle.lot_stream.specs.Status.{code_of};
 ghost use Rattle.lotbook.specs.Compared.{IsCompared, IsNoneTold, IsRefused, IsReported};
-ghost use Rattle.lotbook.specs.Compared.{IsTakenUp, IsToldBeside, ShowsNone, TellsBeside};
+ghost use Rattle.lotbook.specs.Compared.{IsTakenUp, IsToldBeside, Reports, ShowsNone, TellsBeside, WritesBeside};
 ghost use Rattle.lotbook.specs.Compared.{unlimited};
 ghost use Rattle.lotbook.specs.Statuses.{IsStatusBeside};
 
-use crate::answer::advise;
+use crate::answer::{advise, status_behind};
 use crate::system::buffered;
 use lot_call::{Call, Fate, say_unwritten};
 use lot_cli::{AdoptFault, CountedWriter, Halt, Status, say_halt, tell_differences};
 use lot_files::{Database, is_missing};
 use lot_host::old_of;
-use lot_io::CountedWrite;
-use lot_output::Witness;
+use lot_output::{Ended, Output, Witness};
 use lot_store::{Book, HandedBack, adopt};
 use lot_stream::DONE;
 use sqlite::{Alter, Connection};
+use std::io::Write;
 
 /// Takes up the book in a database, that of the path, to be read. Where that can't be done a line on standard output says so, and
 /// one on standard error why; the error is the status of the program.
@@ -78,18 +79,19 @@ fn say_refusal(rt: &HostRuntime, fault: AdoptFault) -> u8
     ensures reported { IsReported fault result }
     ensures stops { result ≡ stopped }
 {
-    let mut output = buffered(rt);
-    let status = write_refusal(&mut CountedWriter::new(&mut output), fault);
-    output.end();
+    let (status, _left) = write_refusal(buffered(rt), fault);
     status
 }
 
-/// Writes why a book isn't taken up, and returns the status.
-fn write_refusal<W: CountedWrite>(writer: &mut W, fault: AdoptFault) -> u8
-    ensures reported { IsReported fault result }
-    ensures stops { result ≡ stopped }
+/// Writes to an output why a book isn't taken up. Returns the status, and what is left of the output.
+fn write_refusal<W: Write + Drop>(output: Output<'_, W>, fault: AdoptFault) -> (u8, Ended<W>)
+    ensures reported { Reports fault (writer_contents W.contents output.entry.buffer)
+        (W.contents result.1.writer) result.1.is_whole result.0 }
+    ensures stops { result.0 ≡ stopped }
 {
-    say_halt(writer, Halt::Adopt(fault))
+    let mut writer = CountedWriter::new(output);
+    let status = say_halt(&mut writer, Halt::Adopt(fault));
+    (status, writer.into_writer().end())
 }
 
 /// Writes how the book that was made of a dump differs from an old one, and nothing where none was made. Returns the
@@ -162,19 +164,30 @@ fn write_differences<S: Alter, T: Alter>(
     ensures told { TellsBeside S.Store T.Store new.old old.old status result }
     ensures ends { IsStatusBeside status result }
 {
+    let (status, _stdout) = write_beside(call, status, new, old, buffered(call.rt));
+    status
+}
+
+/// Writes the differences to an output, and says where that can't be done. Returns the status, and what the output was written to.
+fn write_beside<S: Alter, T: Alter, W: Write + Drop>(
+    call: &Call<'_>,
+    status: u8,
+    new: &mut Book<S>,
+    old: &mut Book<T>,
+    output: Output<'_, W>,
+) -> (u8, W)
+    requires { status ≤ 1 }
+    ensures told { WritesBeside S.Store T.Store new.old old.old
+        (writer_contents W.contents output.entry.buffer) (W.contents result.1) status result.0 }
+    ensures ends { IsStatusBeside status result.0 }
+{
     let alloc = call.rt.alloc();
-    let mut writer = Witness::new(alloc, buffered(call.rt), call.most());
-    let end = tell_differences(
-        alloc,
-        status_of(status),
-        new,
-        old,
-        &mut CountedWriter::new(&mut writer),
-    );
-    let (output, heard) = writer.into_parts();
-    output.end();
+    let mut writer = CountedWriter::new(Witness::new(alloc, output, call.most()));
+    let end = tell_differences(alloc, status_of(status), new, old, &mut writer);
+    let (output, heard) = writer.into_writer().into_parts();
+    let Ended { writer, is_whole } = output.end();
     say_unwritten(call, &heard, Fate::Kept);
-    end
+    (status_behind(end, is_whole), writer)
 }
 
 /// Returns how an action ended that met no fault, by its status.

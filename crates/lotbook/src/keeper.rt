@@ -4,7 +4,7 @@ ghost use Rattle.std.specs.Prelude.{◌≡◌, IsNone, IsSome, None, Some};
 ghost use Rattle.std.specs.Io.{ReadsAtMost};
 ghost use Rattle.std.specs.Io.KnownBytes.{ReadConsumes};
 ghost use Rattle.lot_output.specs.Record.{held};
-ghost use Rattle.lot_io.specs.Reads.{CountsRead};
+ghost use Rattle.lot_io.specs.Reads.{CountsRead, no_reads};
 ghost use Rattle.lot_io.specs.Reader.{counts_of, reader_of};
 
 use lot_io::{CountedRead, CountedReader};
@@ -38,6 +38,7 @@ impl<R> Keeper<R> {
     /// Returns a reader over this one of which nothing is read yet, and that keeps so much.
     pub fn new(alloc: Global, reader: R, keep: Keep) -> Keeper<R>
         ensures reader { reader_of result.reader ≡ reader }
+        ensures counts { counts_of result.reader ≡ no_reads }
         ensures none { keep ≡ Keep.Nothing → held result.kept ≡ None }
     {
         let room = match keep {

@@ -27,6 +27,6 @@ fn main(rt: HostRuntime) -> ExitCode {
         return ExitCode::from(out_of_memory(&rt));
     }
     let failure = Failure::none();
-    let system = System::new(&rt, &failure);
-    ExitCode::from(run(&system, rt.alloc(), words(&rt)))
+    let mut system = System::new(&rt, &failure);
+    ExitCode::from(run(&mut system, rt.alloc(), words(&rt)))
 }

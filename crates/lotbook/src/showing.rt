@@ -1,48 +1,52 @@
 //! What a broker's export comes to by a profile, on standard output. No book is opened.
 
-ghost use Rattle.lotbook.specs.Shown.{IsExportShown};
+ghost use Rattle.std.specs.Io.Buffered.{writer_contents};
+ghost use Rattle.lotbook.specs.Shown.{IsExportShown, ShowsTo};
 
+use crate::answer::status_behind;
 use crate::keeper::{Keep, Keeper};
 use crate::system::buffered;
 use lot_call::{say_cut_short, say_export_fault};
-use lot_cli::{CountedWriter, Halt, InputFault, Notes, Shown, show};
-use lot_io::{CountedRead, CountedWrite};
-use lot_output::{Heard, Record, Witness};
+use lot_cli::{CountedWriter, Halt, InputFault, Notes, show};
+use lot_output::{Ended, Heard, Output, Record, Witness};
 use lot_profile::Profile;
-use std::alloc::Global;
+use std::io::{Read, Write};
 
 /// Writes the ledger text that standard input comes to by a profile, says on standard error what is wrong with it, and returns the
 /// status of the program.
 pub fn show_on(rt: &HostRuntime, profile: &Profile, notes: Notes) -> u8
     ensures { IsExportShown profile.now result }
 {
+    let (status, _stdout) = show_to(rt, profile, notes, rt.reader(), buffered(rt));
+    status
+}
+
+/// Writes to an output the ledger text that an input comes to by a profile, and says on standard error what is wrong with it.
+/// Returns the status of the program, and what the output was written to.
+fn show_to<R: Read + Drop, W: Write + Drop>(
+    rt: &HostRuntime,
+    profile: &Profile,
+    notes: Notes,
+    input: R,
+    output: Output<'_, W>,
+) -> (u8, W)
+    ensures { ShowsTo profile.now (R.remaining input)
+        (writer_contents W.contents output.entry.buffer) (W.contents result.1) result.0 }
+{
     let alloc = rt.alloc();
     let keep = match notes {
         Notes::Quiet => Keep::Nothing,
         Notes::Ten | Notes::All => Keep::TakenBack,
     };
-    let mut reader = Keeper::new(alloc, rt.reader(), keep);
-    let mut writer = Witness::new(alloc, buffered(rt), 0);
-    let mut counted = CountedWriter::new(&mut writer);
-    let shown = show_to(alloc, profile, &mut reader, &mut counted);
+    let mut reader = Keeper::new(alloc, input, keep);
+    let mut writer = CountedWriter::new(Witness::new(alloc, output, 0));
+    let shown = show(alloc, profile, &mut reader, &mut writer);
     reader.free_room();
-    let (output, heard) = writer.into_parts();
-    output.end();
+    let (output, heard) = writer.into_writer().into_parts();
+    let Ended { writer, is_whole } = output.end();
     say_fault(rt, profile, shown.halt, &reader.kept);
     say_failure(rt, notes, &heard);
-    shown.status
-}
-
-/// Writes the ledger text that all that a reader has comes to by a profile.
-fn show_to<R: CountedRead, W: CountedWrite>(
-    alloc: Global,
-    profile: &Profile,
-    reader: &mut R,
-    writer: &mut W,
-) -> Shown
-    ensures { IsExportShown profile.now result.status }
-{
-    show(alloc, profile, reader, writer)
+    (status_behind(shown.status, is_whole), writer)
 }
 
 /// Says what is wrong with an export that was read, where that is why nothing is shown.

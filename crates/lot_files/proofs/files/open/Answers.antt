@@ -1,5 +1,10 @@
-use Rattle.lot_files.proofs.OpenLemmas.{over_system}
+-- What the files that are given come to.
+use Rattle.std.proofs.Common.{inr, rules}
 use Rattle.lot_files.proofs.files.open.Goals as goal
 
-pub returns-in-Ok-open_files-clause-over : goal.returns-in-Ok-open_files-clause-over
-returns-in-Ok-open_files-clause-over c = over_system _ _ c.in-Ok-open_files.conn c.in-Ok-open_files.ensures.found
+pub returns-in-Ok-clause-opens : goal.returns-in-Ok-clause-opens
+returns-in-Ok-clause-opens g c = record {
+  files = c.open_files.result;
+  gives = c.open_files.ensures.gives;
+  told = inr (c.in-Ok.files, c.open_given.ensures.opens, search rules);
+}

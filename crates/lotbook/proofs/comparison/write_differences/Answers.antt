@@ -1,17 +1,7 @@
-use Rattle.lotbook.proofs.EndLemmas.{ends_compared}
 use Rattle.lotbook.proofs.comparison.write_differences.Goals as goal
 
 pub returns-clause-told : goal.returns-clause-told
-returns-clause-told g c = record {
-  new_left = _;
-  old_left = _;
-  end = c.status_of.result;
-  ended = c.status_of.ensures;
-  before = _;
-  written = _;
-  calls = _;
-  differ = c.tell_differences-end.ensures.differ;
-}
+returns-clause-told g c = record { before = _; written = _; tells = c.write_beside-status.ensures.told }
 
 pub returns-clause-ends : goal.returns-clause-ends
-returns-clause-ends g c = ends_compared _ _ _ _ _ _ _ c.status_of.ensures c.tell_differences-end.ensures.differ.ends
+returns-clause-ends g c = c.write_beside-status.ensures.ends

@@ -1,0 +1,10 @@
+-- The files of the path aren't opened so.
+use Rattle.std.proofs.Common.{inr}
+use Rattle.lot_files.specs.Opener.{OpensFor}
+use Rattle.lotbook.proofs.OpenLemmas.{where_err}
+use Rattle.lotbook.proofs.system.SystemHost.open.Goals as goal
+
+pub returns-clause-fault : goal.returns-clause-fault
+returns-clause-fault c =
+    where_err (OpensFor _ c.args.self.now.rt.now c.args.access c.args.path.now) _
+    (λ cause is. inr (inr (c.args.access, (c.args.self.now.rt.now, is)))) c.open_book-found.result c.open_book-found.ensures.opens
