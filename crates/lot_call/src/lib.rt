@@ -49,7 +49,7 @@ pub use profile::{LoadFault, Loaded, load, loaded_from};
 pub use remains::{say_cut_short, say_unwritten};
 pub use remembered::Remembered;
 pub use statement::say_statement_fault;
-pub use status::{PlainFault, out_of_memory, write_fault};
+pub use status::{PlainFault, out_of_memory, status_behind, write_fault};
 pub use taken::say_taken;
 pub use told::{explain, tell};
 pub use unpriced::Appraiser;

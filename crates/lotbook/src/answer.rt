@@ -1,20 +1,19 @@
 //! A call of the program answered: its action is served, and standard error says what there is to say of it.
 
-ghost use Rattle.std.specs.Prelude.{◌≡◌, if◌then◌else◌, None, false};
+ghost use Rattle.std.specs.Prelude.{◌≡◌, None, false};
 ghost use Rattle.std.specs.Io.Buffered.{writer_contents};
 ghost use Rattle.sqlite.specs.Held.{state};
 ghost use Rattle.lot_io.specs.Reads.{reads_between};
 ghost use Rattle.lot_io.specs.Writes.{writes_between};
 ghost use Rattle.lot_args.specs.Preview.{preview_of};
 ghost use Rattle.lot_call.specs.Looks.{IsLookedAt};
-ghost use Rattle.lot_host.specs.Answers.{stopped};
 ghost use Rattle.lotbook.specs.Answered.{AnswersOnSome, IsAnswered, IsServed};
 
 use crate::keeper::{Keep, Keeper};
 use lot_book::Verdict;
 use lot_call::{
     Appraiser, Call, Crumbs, Fate, FileKind, Watched, explain, say_aside, say_export_fault,
-    say_fate, say_statement_fault, say_taken, say_unwritten, sum_up,
+    say_fate, say_statement_fault, say_taken, say_unwritten, status_behind, sum_up,
 };
 use lot_cli::{
     Action, AdoptFault, Aside, CommandFault, CountedWriter, CreateFault, DumpFault, Export,
@@ -26,7 +25,6 @@ use lot_completion::{Note, Watch};
 use lot_io::{CountedRead, CountedWrite};
 use lot_output::{Ended, Heard, Meter, Output, Pace, Record, Witness};
 use lot_rounding::Asked;
-use lot_stream::STOPPED;
 use lot_table::Queryable;
 use lot_verify::say_where;
 use sqlite::{Alter, Connection};
@@ -98,13 +96,6 @@ fn answer<R: Read + Drop, W: Write + Drop, S: Alter>(
         conn,
         writer,
     }
-}
-
-/// Returns the status of a call that ended with this one, by whether all that it wrote was handed to the writer.
-pub fn status_behind(status: u8, is_whole: bool) -> u8
-    ensures { result ≡ (if is_whole then status else stopped) }
-{
-    if is_whole { status } else { STOPPED }
 }
 
 /// Returns standard output, for what a call is for: the replies of a run are written out at once, and a meter counts them.
