@@ -1,4 +1,3 @@
 mod SelectLemmas
 pub mod LookLemmas
 pub mod SumsLemmas
-pub mod ToldLemmas

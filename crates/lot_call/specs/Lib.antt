@@ -1,4 +1,3 @@
-pub mod Call
 pub mod Except
 pub mod Fate
 pub mod Loaded
@@ -7,4 +6,3 @@ pub mod Remains
 pub mod Rounding
 pub mod Status
 pub mod Sums
-pub mod Told

@@ -1,14 +1,10 @@
 //! What the codes mean, and why the commands of a call were refused.
 
-ghost use Rattle.std.specs.Prelude.{◌≡◌, OnOk, option_copied};
-ghost use Rattle.std.specs.Io.Buffered.{writer_contents};
-ghost use Rattle.lot_explain.specs.Explained.{Lists};
-ghost use Rattle.lot_host.specs.Answers.{IsShown, unusable};
+ghost use Rattle.std.specs.Prelude.{◌≡◌, Some, option_copied};
+ghost use Rattle.lot_host.specs.Answers.{IsShown, IsTold, unusable};
 ghost use Rattle.lot_call.specs.Except.{except_of};
 ghost use Rattle.lot_call.specs.Looks.{IsLookedAt};
 ghost use Rattle.lot_call.specs.Status.{status_shown, status_told};
-ghost use Rattle.lot_call.specs.Told.{AppendsProfile, IsShownSo, Tells, TellsTo, TellsWord};
-ghost use Rattle.lot_call.specs.Told.{names_profile};
 ghost use Rattle.sqlite.specs.Held.{state};
 
 use crate::call::{Call, rounding_of};
@@ -17,12 +13,11 @@ use crate::exported::Exported;
 use crate::facts::look_up;
 use crate::remains::say_cut_short;
 use crate::remembered::Remembered;
-use crate::status::status_behind;
 use lot_args::Action;
 use lot_base::Label;
 use lot_command::Key;
 use lot_explain::{Explanation, ExportRows, Source, Transcript, list, nearest_code};
-use lot_output::{Ended, Heard, Meter, Output, Pace, Record};
+use lot_output::{Heard, Meter, Output, Pace, Record};
 use lot_profile_text::{NOTES, SECTIONS, explain_profile};
 use lot_rounding::Asked;
 use lot_stream::{DONE, STOPPED, UNUSABLE};
@@ -33,67 +28,21 @@ use std::io::{self, Write};
 
 /// Tells what a code means, or what all do, or what a profile may say, and returns the status.
 pub fn tell(rt: &HostRuntime, code: Option<&str>) -> u8
-    ensures tells { Tells (option_copied code.entry) result }
+    ensures { IsTold (option_copied code.entry) result }
 {
     let replies = Meter::of_replies(rt, None);
-    let output = Output::new(rt.alloc(), rt.stdout(), Pace::Buffered, replies);
-    let (status, _stdout) = tell_to(rt, code, output);
-    status
-}
-
-/// Writes to an output what a code means, or what all do, or what a profile may say. Returns the status, and what the output was
-/// written to.
-fn tell_to<W: Write + Drop>(rt: &HostRuntime, code: Option<&str>, output: Output<'_, W>) -> (u8, W)
-    ensures { TellsTo (option_copied code.entry)
-        (writer_contents W.contents output.entry.buffer) (W.contents result.1) result.0 }
-{
-    let Some(word) = code else {
-        return list_to(rt, output);
+    let mut output = Output::new(rt.alloc(), rt.stdout(), Pace::Buffered, replies);
+    let shown = match code {
+        None => list(&mut output),
+        Some("profile") => tell_profile(rt, &mut output),
+        Some(word) => {
+            let told = lot_explain::explain(&mut output, word);
+            output.end();
+            return end_told(rt, word, told);
+        }
     };
-    if names_profile(word) {
-        return profile_to(rt, output);
-    }
-    word_to(rt, word, output)
-}
-
-/// Returns whether a word stands for all that a profile may say.
-fn names_profile(word: &str) -> bool
-    ensures { result ≡ names_profile word.now }
-{
-    word == "profile"
-}
-
-/// Writes all codes to an output. Returns the status, and what the output was written to.
-fn list_to<W: Write + Drop>(rt: &HostRuntime, output: Output<'_, W>) -> (u8, W)
-    ensures { IsShownSo (Lists (writer_contents W.contents output.entry.buffer))
-        (W.contents result.1) result.0 }
-{
-    let mut output = output;
-    let shown = list(&mut output);
-    let Ended { writer, is_whole } = output.end();
-    (status_behind(end_shown(rt, shown), is_whole), writer)
-}
-
-/// Writes to an output all that a profile may say. Returns the status, and what the output was written to.
-fn profile_to<W: Write + Drop>(rt: &HostRuntime, output: Output<'_, W>) -> (u8, W)
-    ensures { IsShownSo (AppendsProfile (writer_contents W.contents output.entry.buffer))
-        (W.contents result.1) result.0 }
-{
-    let mut output = output;
-    let shown = tell_profile(rt, &mut output);
-    let Ended { writer, is_whole } = output.end();
-    (status_behind(end_shown(rt, shown), is_whole), writer)
-}
-
-/// Writes to an output what a word means, where it names a code. Returns the status, and what the output was written to.
-fn word_to<W: Write + Drop>(rt: &HostRuntime, word: &str, output: Output<'_, W>) -> (u8, W)
-    ensures { TellsWord word.now (writer_contents W.contents output.entry.buffer)
-        (W.contents result.1) result.0 }
-{
-    let mut output = output;
-    let told = lot_explain::explain(&mut output, word);
-    let Ended { writer, is_whole } = output.end();
-    (status_behind(end_told(rt, word, told), is_whole), writer)
+    output.end();
+    end_shown(rt, shown)
 }
 
 /// Says that the output is cut short, where it couldn't be written. Returns the status.
@@ -112,7 +61,8 @@ pub(crate) fn end_shown(rt: &HostRuntime, shown: io::Result<()>) -> u8
 
 /// Says that a word is no code, where it is none, or that the output is cut short. Returns the status.
 fn end_told(rt: &HostRuntime, word: &str, told: io::Result<bool>) -> u8
-    ensures { result ≡ status_told told }
+    ensures status { result ≡ status_told told }
+    ensures told { IsTold (Some word.now) result }
 {
     match told {
         Ok(true) => DONE,
@@ -122,9 +72,7 @@ fn end_told(rt: &HostRuntime, word: &str, told: io::Result<bool>) -> u8
 }
 
 /// Writes all that a profile may say.
-fn tell_profile<W: Write>(rt: &HostRuntime, output: &mut W) -> io::Result<()>
-    ensures { OnOk result (AppendsProfile (W.contents output.old) (W.contents output.new)) }
-{
+fn tell_profile<W: Write>(rt: &HostRuntime, output: &mut W) -> io::Result<()> {
     let text = explain_profile(rt.alloc(), &SECTIONS, &NOTES)?;
     output.write_all(text.as_bytes())?;
     output.flush()

@@ -1,7 +1,0 @@
-use Rattle.lot_call.proofs.ToldLemmas.{told_word}
-use Rattle.lot_call.proofs.told.word_to.Goals as goal
-
-pub returns : goal.returns
-returns g c =
-    told_word c.args.word.now _ c.explain.result _ _ _ _ _ c.end_told.ensures c.explain.ensures c.end-writer.ensures.whole
-    c.status_behind.ensures
