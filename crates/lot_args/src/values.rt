@@ -106,7 +106,6 @@ pub(crate) fn options_of(word: &str) -> &'static [BadOption]
             BadOption::Period,
             BadOption::Format,
         ],
-        "page" => &[BadOption::First, BadOption::Last, BadOption::Day],
         "reconcile" => &[BadOption::Account, BadOption::AsOf, BadOption::Format],
         "restore" => &[
             BadOption::Without,

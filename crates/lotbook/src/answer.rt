@@ -13,8 +13,8 @@ ghost use Rattle.lotbook.specs.Answered.{AnswersOnSome, IsAnswered, IsServed};
 use crate::keeper::{Keep, Keeper};
 use lot_book::Verdict;
 use lot_call::{
-    Appraiser, Call, Crumbs, Fate, FileKind, Forewarner, Watched, explain, say_aside,
-    say_export_fault, say_fate, say_statement_fault, say_taken, say_unwritten, sum_up,
+    Appraiser, Call, Crumbs, Fate, FileKind, Watched, explain, say_aside, say_export_fault,
+    say_fate, say_statement_fault, say_taken, say_unwritten, sum_up,
 };
 use lot_cli::{
     Action, AdoptFault, Aside, CommandFault, CountedWriter, CreateFault, DumpFault, Export,
@@ -80,8 +80,7 @@ fn answer<R: Read + Drop, W: Write + Drop, S: Alter>(
         Keep::TakenBack
     };
     let mut reader = Keeper::new(alloc, input, keep);
-    let forewarner = Forewarner::new(call, output);
-    let appraiser = Appraiser::new(call, forewarner);
+    let appraiser = Appraiser::new(call, output);
     let mut writer = CountedWriter::new(Witness::new(alloc, appraiser, call.most()));
     let mut watched = Watched::of(call);
     let Served {
@@ -91,7 +90,7 @@ fn answer<R: Read + Drop, W: Write + Drop, S: Alter>(
     } = do_quietly(call, &mut reader, &mut writer, &mut watched, conn);
     reader.free_room();
     let (appraiser, heard) = writer.into_writer().into_parts();
-    let output = appraiser.say_unpriced(call, &heard).into_writer();
+    let output = appraiser.say_unpriced(call, &heard);
     let Ended { writer, is_whole } = output.end();
     speak(call, &reader.kept, &heard, &mut watched, halt, &mut conn);
     Answered {

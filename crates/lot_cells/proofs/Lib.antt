@@ -1,5 +1,0 @@
-pub mod AppendLemmas
-pub mod BalanceLemmas
-mod CellLemmas
-mod EntryLemmas
-mod SaleLemmas

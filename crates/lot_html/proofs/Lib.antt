@@ -1,4 +1,0 @@
-pub mod BalanceLemmas
-mod CharLemmas
-mod DigitLemmas
-pub mod LawLemmas
