@@ -34,6 +34,7 @@ rows_of() {
         holdings*) grep -c ' {' "$scratch/out" ;;
         gains) grep -c '^  ' "$scratch/out" ;;
         journal) grep -c '^; entry ' "$scratch/out" ;;
+        page) grep -c '<i>; entry ' "$scratch/out" ;;
     esac
 }
 
@@ -41,7 +42,7 @@ rows_of() {
 table() {
     local report book words runs opened taken room rows first each
     printf '%-26s %9s %9s %9s %9s %9s %9s\n' report "$size" rows 'rows/ms' 'us/row' ratio KiB
-    for report in holdings "holdings --day 2020-12-31" "holdings --format csv" gains "gains --format csv" journal; do
+    for report in holdings "holdings --day 2020-12-31" "holdings --format csv" gains "gains --format csv" journal page; do
         read -ra words <<<"$report"
         first=""
         for book in "$@"; do

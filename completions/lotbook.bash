@@ -2,7 +2,7 @@
 # Written by tools/pages.py from the subcommands of the program: change those, and run it again.
 
 # The words of the program, and those of `help`; the codes of `explain`.
-_lotbook_words="init migrate post import holdings gains register activity journal dump reconcile restore verify explain help"
+_lotbook_words="init migrate post import holdings gains register activity journal page dump reconcile restore verify explain help"
 _lotbook_codes="N1 N2 N3 N4 M1 M2 M3 M4 M5 I1 B1 B2 B3 B4 B5 B6"
 _lotbook_codes+=" L1 L2 L3 L4 L5 L6 L7 L8 L9 L10 L11 L12 L13 L14 L15 L16"
 _lotbook_codes+=" X1 X2 X3 X4 X5 X6 X7 D1 D2 D3 D4 C1 C2 C3 C4 C5"
@@ -27,6 +27,7 @@ _lotbook_options() {
         register) echo --book --account --commodity --first --last --format --quiet --help ;;
         activity) echo --book --account --first --last --by --format --quiet --help ;;
         journal) echo --book --quiet --help ;;
+        page) echo --book --first --last --day --digest --quiet --help ;;
         dump) echo --book --quiet --help ;;
         reconcile) echo --book --account --as-of --format --quiet --help ;;
         restore)

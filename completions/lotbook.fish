@@ -3,7 +3,7 @@
 # The subcommand of the line is one of these, or there is none where none is given.
 function __lotbook_word_is
     for token in (commandline -opc)
-        if contains -- $token init migrate post import holdings gains register activity journal dump reconcile restore verify explain help
+        if contains -- $token init migrate post import holdings gains register activity journal page dump reconcile restore verify explain help
             contains -- $token $argv
             return
         end
@@ -21,6 +21,7 @@ complete -c lotbook -n '__lotbook_word_is' -a gains -d 'Prints what each sale of
 complete -c lotbook -n '__lotbook_word_is' -a register -d 'Prints what moved an account of a book, leg by leg'
 complete -c lotbook -n '__lotbook_word_is' -a activity -d 'Prints what went into accounts of a book and out of them, by period'
 complete -c lotbook -n '__lotbook_word_is' -a journal -d 'Prints the accepted commands of a book as ledger text'
+complete -c lotbook -n '__lotbook_word_is' -a page -d 'Prints a book as one page of HTML that any browser opens'
 complete -c lotbook -n '__lotbook_word_is' -a dump -d 'Prints a whole book as a text that says if it was changed'
 complete -c lotbook -n '__lotbook_word_is' -a reconcile -d 'Prints what differs between a statement and a book'
 complete -c lotbook -n '__lotbook_word_is' -a restore -d 'Makes a book of a dump from standard input'
@@ -110,6 +111,13 @@ complete -c lotbook -n '__lotbook_word_is activity' -s h -l help -d 'Prints the 
 complete -c lotbook -n '__lotbook_word_is journal' -l book -r -F -d 'The file of the book'
 complete -c lotbook -n '__lotbook_word_is journal' -l quiet -d 'Explains nothing on standard error, also where --explain-all is given'
 complete -c lotbook -n '__lotbook_word_is journal' -s h -l help -d 'Prints the help'
+complete -c lotbook -n '__lotbook_word_is page' -l book -r -F -d 'The file of the book'
+complete -c lotbook -n '__lotbook_word_is page' -l first -x -d 'The first day whose sales and entries are on the page'
+complete -c lotbook -n '__lotbook_word_is page' -l last -x -d 'The last day of them, at whose end holdings are'
+complete -c lotbook -n '__lotbook_word_is page' -l day -x -d 'The day of the prices of what is held'
+complete -c lotbook -n '__lotbook_word_is page' -l digest -d 'Puts the SHA-256 on it with which the dump of the book ends'
+complete -c lotbook -n '__lotbook_word_is page' -l quiet -d 'Explains nothing on standard error, also where --explain-all is given'
+complete -c lotbook -n '__lotbook_word_is page' -s h -l help -d 'Prints the help'
 complete -c lotbook -n '__lotbook_word_is dump' -l book -r -F -d 'The file of the book'
 complete -c lotbook -n '__lotbook_word_is dump' -l quiet -d 'Explains nothing on standard error, also where --explain-all is given'
 complete -c lotbook -n '__lotbook_word_is dump' -s h -l help -d 'Prints the help'
@@ -134,7 +142,7 @@ complete -c lotbook -n '__lotbook_word_is verify' -l digest -d 'Prints a second 
 complete -c lotbook -n '__lotbook_word_is verify' -l quiet -d 'Explains nothing on standard error, also where --explain-all is given'
 complete -c lotbook -n '__lotbook_word_is verify' -s h -l help -d 'Prints the help'
 complete -c lotbook -n '__lotbook_word_is explain' -s h -l help -d 'Prints the help'
-complete -c lotbook -n '__lotbook_word_is help' -a 'init migrate post import holdings gains register activity journal dump reconcile restore verify explain help'
+complete -c lotbook -n '__lotbook_word_is help' -a 'init migrate post import holdings gains register activity journal page dump reconcile restore verify explain help'
 complete -c lotbook -n '__lotbook_word_is explain' -a N1 -d 'Syntax: the text is no number'
 complete -c lotbook -n '__lotbook_word_is explain' -a N2 -d 'TooManyDecimals: a number has more than eight decimals'
 complete -c lotbook -n '__lotbook_word_is explain' -a N3 -d 'TooLarge: a number is too large'

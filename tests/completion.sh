@@ -168,7 +168,13 @@ if command -v zsh >/dev/null; then
         makes "lotbook $word" "lotbook ${word%?}"
         makes "lotbook help $word" "lotbook help ${word%?}"
         [[ $word != help ]] || continue
-        for option in $(options_in_help "$word"); do makes "lotbook --quiet $word $option" "lotbook --quiet $word ${option%?}"; done
+        options=$(options_in_help "$word")
+        for option in $options; do
+            # Without its last letter it may be the begin of another, too: `--b` of `--book` and `--by`.
+            made=$option
+            if printf '%s\n' $options | grep -- "^${option%?}" | grep -qv -- "^$option"; then made=${option%?}; fi
+            makes "lotbook --quiet $word $made" "lotbook --quiet $word ${option%?}"
+        done
     done
     for option in $(options_in_help); do makes "lotbook $option" "lotbook ${option%?}"; done
     makes "lotbook explain B2" "lotbook explain B2"

@@ -802,6 +802,24 @@ stated "a commodity that comes twice" 'row 2: the commodity stands in a row abov
 stated "a field more" 'row 1: another number of fields than the header: `USD,1,`' 'commodity,units\nUSD,1,\n'
 stated "a field of two lines" 'row 2: commodity isn'"'"'t a commodity: `"E`' 'commodity,units\n"USD",1\n"E\nR",1\n'
 
+# An account that the book doesn't have is warned of; one that it has isn't, and with `--quiet` none is.
+# of_account ACCOUNT WORDS..: a report of it.
+of_account() { run "${@:2}" --book "$book" --account "$1" < <(printf 'commodity,units\nUSD,0\n'); }
+silent() { if [[ -s $scratch/err ]]; then fail "$1" "on standard error: $(head -c 200 "$scratch/err")"; else pass "$1"; fi; }
+opened
+for word in register activity reconcile; do
+    for account in Assets:Broke Assets:Brokers Assets:Broker: Equity:; do
+        of_account "$account" "$word"
+        says "$word of no account $account" "lotbook: warning: the book has no account $account"
+        of_account "$account" "$word" --quiet
+        silent "$word of no account $account, quietly"
+    done
+    for account in Assets:Broker Assets:; do
+        of_account "$account" "$word"
+        silent "$word of $account"
+    done
+done
+
 # Standard error that can't be written changes nothing.
 printf '2020-01-01 open Assets:Cash\n' >"$scratch/in"
 echo "1 refused L2 AlreadyOpen" >"$scratch/told"

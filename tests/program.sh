@@ -72,7 +72,7 @@ unusable "sell" sell
 unusable "migration" migration --book f
 unusable "hold" hold --book f
 unusable "sell" help sell
-for word in holdings gains journal dump restore import; do unusable "--book" "$word" --batch a; done
+for word in holdings gains journal page dump restore import; do unusable "--book" "$word" --batch a; done
 unusable "--book" migrate
 unusable "--book" verify
 unusable "--batch" migrate --book f --batch a
@@ -320,7 +320,7 @@ helps "--last 2024-12-31" gains -h
 helps "--by year,commodity" gains -h
 helps "--account Assets:Broker" register -h
 helps "--commodity HOOL" register -h
-helps "It takes 16 bytes of memory for each leg" register --help
+helps "it takes 16 bytes of memory for each leg" register --help
 helps "--by quarter" activity -h
 helps "--as-of 2024-12-31" reconcile -h
 helps "--account Income:" activity -h
@@ -336,7 +336,7 @@ helps "--compare family.book" restore -h
 for word in help --help -h; do
     run "$word" </dev/null
     lines=$(wc -l <"$scratch/out") columns=$(wc -L <"$scratch/out")
-    if ((lines == 29 && columns <= 80)); then pass "the size of $word"; else fail "the size of $word" "$lines lines, $columns columns"; fi
+    if ((lines == 30 && columns <= 80)); then pass "the size of $word"; else fail "the size of $word" "$lines lines, $columns columns"; fi
     [[ $word == help ]] && cp "$scratch/out" "$scratch/help"
     cmp -s "$scratch/help" "$scratch/out" && pass "$word is the help" || fail "$word is the help" "other than help"
 done

@@ -6,7 +6,7 @@ need_program
 
 first=$examples/first-purchase.ledger
 
-reports=(holdings gains "register --account Assets:" activity journal dump verify)
+reports=(holdings gains "register --account Assets:" activity journal page dump verify)
 
 # printed BOOK: what the reports of the book print is kept.
 printed() {

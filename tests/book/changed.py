@@ -51,6 +51,7 @@ PROBES = {
     "activity": (["activity", "--by", "quarter"], ""),
     "statement": (["reconcile", "--account", "Assets:"], "commodity,units\nHOOL,5\n"),
     "journal": (["journal"], ""),
+    "page": (["page"], ""),
     "migrate": (["migrate"], ""),
     "verify": (["verify"], ""),
     "buy": (["post", "--batch", "b"], "2020-03-01 *\n  Assets:Broker 1 HOOL {100 USD}\n  Assets:Cash\n"),
@@ -221,13 +222,13 @@ COLUMNS = {
     "account": ("opened closed method", "name = 'Assets:Broker'", "buy"),
     "allowed": ("place commodity", "place = 1", "buy"),
     "commodity": ("day", "1", "declare"),
-    "price": ("base quote day rate", "1", "values"),
-    "entry": ("number source name body", "number = 9", "journal past register activity statement"),
+    "price": ("base quote day rate", "1", "values page"),
+    "entry": ("number source name body", "number = 9", "journal page past register activity statement"),
     "leg": (
         "place account commodity units cost_number cost_currency cost_day cost_label", "entry = 9 AND posting = 1",
-        "gains sums past register activity statement",
+        "gains sums page past register activity statement",
     ),
-    "sale": ("entry posting day account commodity units kind amount currency", "1", "gains sums"),
+    "sale": ("entry posting day account commodity units kind amount currency", "1", "gains sums page"),
     "lot": ("account commodity cost_day cost_currency cost_number cost_label units", "1", "holdings"),
     "plain": ("account commodity units", "account = 'Assets:Cash'", "holdings"),
     "head": ("day", "1", "buy"),
@@ -261,7 +262,8 @@ def call(program, words, text=""):
 
 def probe(program, book, name):
     words, text = PROBES[name]
-    return call(program, [words[0], "--book", book, *words[1:]], text)
+    output, errors, status = call(program, [words[0], "--book", book, *words[1:]], text)
+    return output.replace(os.path.basename(book), "BOOK"), errors, status  # a page says the name of the file
 
 
 def dump(db):

@@ -293,6 +293,13 @@ def sums_differ(text, table):
     return ""
 
 
+def warning(book, account):
+    """What standard error says of a report of an account, where the book has none of that name, or none whose name begins so."""
+    opened = [entry.command.account for entry in book if isinstance(entry.command, model.Opening)]
+    known = not account or any(name.startswith(account) if account.endswith(":") else name == account for name in opened)
+    return "" if known else f"lotbook: warning: the book has no account {account}\n"
+
+
 def call(program, words, given=""):
     done = subprocess.run([program, *words], input=given.encode(), capture_output=True, timeout=600)
     return done.stdout.decode(), done.returncode, done.stderr.decode()
@@ -350,7 +357,7 @@ def compare(program, scratch, seed):
         words += ["--account", account] if account else []
         for wanted, more in ((written(table), ["--format", "csv"]), (plain, [])):
             got = call(program, words + more)
-            if got != (wanted, 0, ""):
+            if got != (wanted, 0, warning(drawing.book, account)):
                 found += f"--- {' '.join(words + more)}, wanted\n{wanted}--- got, status {got[1]}\n{got[0]}{got[2]}"
     commodities = sorted({leg.commodity for entry in drawing.book for leg in entry.legs()})
     for first, last in [(reports.FIRST_DAY, reports.LAST_DAY), *ranges[:2]]:
@@ -363,7 +370,7 @@ def compare(program, scratch, seed):
         words += ["--commodity", commodity] if commodity else []
         for wanted, more in ((written(table), ["--format", "csv"]), (plain, [])):
             got = call(program, words + more)
-            if got != (wanted, 0, ""):
+            if got != (wanted, 0, warning(drawing.book, account)):
                 found += f"--- {' '.join(words + more)}, wanted\n{wanted}--- got, status {got[1]}\n{got[0]}{got[2]}"
     for day in [reports.LAST_DAY, *days[:1]]:
         account = rng.choice(accounts)
@@ -373,7 +380,7 @@ def compare(program, scratch, seed):
         words += [] if day == reports.LAST_DAY else ["--as-of", day_text(day)]
         for wanted, more in ((written(table), ["--format", "csv"]), (plain, [])):
             got = call(program, words + more, statement)
-            if got != (wanted, int(len(table) > 1), ""):
+            if got != (wanted, int(len(table) > 1), warning(drawing.book, account)):
                 found += f"--- {' '.join(words + more)} of\n{statement}--- wanted\n{wanted}--- got, status {got[1]}\n{got[0]}{got[2]}"
     tables.removed(book)
     return found and text.decode() + found, seen

@@ -137,7 +137,7 @@ class Sweep:
         self.folder = os.path.join(folder, "files")
         os.makedirs(self.folder)
         self.book = os.path.join(self.folder, "book")
-        self.other = os.path.join(folder, "other")
+        self.other = os.path.join(folder, "book")  # of the same name: a page says it
         self.input = os.path.join(folder, "input")
         self.found = Found()
         self.last = {}  # each file as it was read last
@@ -471,7 +471,7 @@ def longer_calls(texts, crumbs, broker, older):
             ["holdings"], ["holdings", *day], ["holdings", *day, *table], ["holdings", *past], ["holdings", *past, *table],
             ["gains"], ["gains", *table], ["gains", "--by", "year,term"], ["gains", "--by", "commodity", *table],
             ["register", *below], ["register", *below, *table], ["activity", "--by", "month"], ["activity", *table],
-            ["reconcile", *below], ["reconcile", *below, *past, *table], ["journal"], ["dump"], ["verify", "--digest"],
+            ["reconcile", *below], ["reconcile", *below, *past, *table], ["journal"], ["page", "--digest"], ["dump"], ["verify", "--digest"],
         ):  # fmt: skip
             text = STATEMENT if words[0] == "reconcile" else b""
             yield Call(f"{' '.join(words)} of {book}", [words[0], "--book", BOOK, *words[1:]], text, before)

@@ -20,6 +20,7 @@ import tally
 from small_book import READERS, WORDS, WRITERS, ask, small_book, with_log
 
 IN_THE_GATE = 80  # calls on tables of another form, and on values that no book has, of some two thousand each
+NAMES = [name for name in changed.PROBES if name != "page"]  # the lines of a page are no lines of a report
 NOBODY = 65534
 RIGHT, OPEN, NOT_A_BOOK, NEWER, OLDER, DAMAGED = "right", "open", "S1 NotABook", "S2 NewerEdition", "S3 OlderEdition", "S7 Damaged"
 DOUBLED = "right, and a row stands twice"
@@ -347,7 +348,7 @@ def probed_book(program, path):
     with tables.connect(path) as db:
         columns = {table: [row[1] for row in db.execute(f"PRAGMA table_info({table})")] for table in tables.TABLES}
     answers, then = {}, {}
-    for name in changed.PROBES:
+    for name in NAMES:
         copy = tables.copied(path, path + ".probed")
         answers[name], then[name] = probed(program, copy, name), rows_of(copy, columns)
     return Sound(path, columns, answers, then)
@@ -417,7 +418,7 @@ def value_cases(words):
 def all_values():
     for table, row, column, values, _ in changed.ROWS:
         for value in values:
-            for name in changed.PROBES:
+            for name in NAMES:
                 yield table, row, column, value, name
 
 
@@ -426,7 +427,7 @@ def all_forms(sound):
         made = dict(db.execute("SELECT name, sql FROM sqlite_schema WHERE type = 'table'"))
     for table in tables.TABLES:
         for form, statements, allowed in forms(table, made[table]):
-            for name in changed.PROBES:
+            for name in NAMES:
                 yield form, table, statements, allowed, name
 
 

@@ -377,7 +377,7 @@ def limited_reports(ground, whole):
     for word, *more in (
         ["holdings"], ["holdings", "--day", "2020-12-31"], ["holdings", "--as-of", "2020-01-02"], ["gains"], ["gains", "--by", "year,term"],
         ["register", "--account", "Assets:"], ["register", "--account", "Assets:", "--format", "csv"], ["activity", "--by", "month"],
-        ["reconcile", "--account", "Assets:"], ["journal"], ["dump"],
+        ["reconcile", "--account", "Assets:"], ["journal"], ["page"], ["dump"],
     ):  # fmt: skip
         calls.append(([word, "--book", full.book, *more], b"commodity,units\nHOOL,5\nUSD,0\n" if word == "reconcile" else b""))
     for words, text in calls:

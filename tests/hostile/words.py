@@ -38,6 +38,7 @@ OPTIONS = {
     },
     "reconcile": {"--book": "f", "--account": "Assets:Cash", "--as-of": "2020-01-01", "--format": "csv"},
     "journal": {"--book": "f"},
+    "page": {"--book": "f", "--first": "2020-01-01", "--last": "2020-01-01", "--day": "2020-01-01"},
     "dump": {"--book": "f"},
     "restore": {"--book": "f"},
     "migrate": {"--book": "f"},

@@ -12,7 +12,7 @@ import notes  # noqa: E402  (the folders are named above)
 import tables  # noqa: E402
 
 RESTORED = "book restored"
-WORDS = ("holdings", "gains", "register", "activity", "reconcile", "journal", "dump", "verify", "migrate", "post", "import")
+WORDS = ("holdings", "gains", "register", "activity", "reconcile", "journal", "page", "dump", "verify", "migrate", "post", "import")
 ACCOUNTS = "--invest Assets:Broker --cash Assets:Cash --fees Expenses:Fees --gains Income:Gains".split()
 BELOW = ["--account", "Assets:"]
 NEEDED = {"post": ["--batch", "x"], "import": ["--batch", "x", *ACCOUNTS], "register": BELOW, "reconcile": BELOW}

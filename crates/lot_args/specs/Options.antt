@@ -189,8 +189,9 @@ options_of word =
     else (if bytes_eq word (codes "gains") then First ∷ Last ∷ By ∷ Format ∷ []
     else (if bytes_eq word (codes "register") then Account ∷ Commodity ∷ First ∷ Last ∷ Format ∷ []
     else (if bytes_eq word (codes "activity") then Account ∷ First ∷ Last ∷ Period ∷ Format ∷ []
+    else (if bytes_eq word (codes "page") then First ∷ Last ∷ Day ∷ []
     else (if bytes_eq word (codes "reconcile") then Account ∷ AsOf ∷ Format ∷ []
-    else (if bytes_eq word (codes "restore") then Without ∷ WithoutBatch ∷ WithoutEntries ∷ [] else [])))))))
+    else (if bytes_eq word (codes "restore") then Without ∷ WithoutBatch ∷ WithoutEntries ∷ [] else []))))))))
 
 -- the first of the options whose value is outside its rule
 abbrev pub first_bad : List Row → List BadOption → Option BadOption

@@ -106,6 +106,11 @@ activity_app =
 abbrev pub journal_app : App
 journal_app = book_app (codes "journal") []
 
+abbrev pub page_app : App
+page_app =
+    book_app (codes "page")
+    (option_rule (codes "first") ∷ option_rule (codes "last") ∷ option_rule (codes "day") ∷ flag_rule (codes "digest") ∷ [])
+
 abbrev pub dump_app : App
 dump_app = book_app (codes "dump") []
 
@@ -146,4 +151,4 @@ abbrev pub program_app : App
 program_app =
     with_words bare_app
     (init_app ∷ migrate_app ∷ post_app ∷ import_app ∷ holdings_app ∷ gains_app ∷ register_app ∷ activity_app
-    ∷ journal_app ∷ dump_app ∷ reconcile_app ∷ restore_app ∷ verify_app ∷ explain_app ∷ [])
+    ∷ journal_app ∷ page_app ∷ dump_app ∷ reconcile_app ∷ restore_app ∷ verify_app ∷ explain_app ∷ [])

@@ -14,7 +14,8 @@ IsOneOf (name ∷ names) word = (word ≡ name) ⊎ IsOneOf names word
 abbrev pub book_words : List Text
 book_words =
     codes "init" ∷ codes "migrate" ∷ codes "post" ∷ codes "import" ∷ codes "holdings" ∷ codes "gains" ∷ codes "register"
-    ∷ codes "activity" ∷ codes "journal" ∷ codes "dump" ∷ codes "reconcile" ∷ codes "restore" ∷ codes "verify" ∷ []
+    ∷ codes "activity" ∷ codes "journal" ∷ codes "page" ∷ codes "dump" ∷ codes "reconcile" ∷ codes "restore"
+    ∷ codes "verify" ∷ []
 
 -- there is such a word on a book
 abbrev pub IsBookWord : Text → Type 0

@@ -1,5 +1,6 @@
 -- What words ask for: what the values matched by `clap` name, and the option whose value is outside its rule.
 use Rattle.std.specs.Prelude.{◌≡◌, ◌||◌, ◌++◌, if◌then◌else◌, ℕ, Bool, false, true, List, [], Option, Some, None, codes, filter_map, option_and_then, option_map, unwrap_or}
+use Rattle.std.specs.Path.{path_file_name}
 use Rattle.std.specs.Str.{bytes_eq}
 use Rattle.std.specs.String.{string_bytes}
 use Rattle.clap.specs.Words.{Row, Text, fault_of, first_of, matches_of, subcommand_of}
@@ -23,7 +24,7 @@ use Rattle.lot_args.specs.declared.action.Action.{Action}
 use Rattle.lot_args.specs.declared.action.AskedImport.{AskedImport}
 use Rattle.lot_args.specs.declared.action.Action.TheVariants.{Check, Init, Migrate, Post, PostRow, Import, ImportBy, Report as Reporting, Reconcile, Restore, Verify}
 use Rattle.lot_args.specs.declared.action.Report.{Report}
-use Rattle.lot_args.specs.declared.action.Report.TheVariants.{Holdings, HoldingsOn, Gains, GainsBy, AddedGains, Register, Activity, Journal, Dump}
+use Rattle.lot_args.specs.declared.action.Report.TheVariants.{Holdings, HoldingsOn, Gains, GainsBy, AddedGains, Register, Activity, Journal, Page, Dump}
 use Rattle.lot_args.specs.declared.action.Format.{Format}
 use Rattle.lot_args.specs.declared.action.Format.TheVariants.{Text as AsText, Csv}
 use Rattle.lot_args.specs.declared.action.Keeping.{Keeping}
@@ -110,6 +111,10 @@ notes_of before rows =
     if is_in_either (codes "quiet") before rows then Quiet
     else (if is_in_either (codes "explain-all") before rows then All else Ten)
 
+-- the name of the file of a path, or all of a path that names none
+abbrev pub file_name : Text → Text
+file_name path = unwrap_or (path_file_name path) path
+
 -- ---- the action
 
 -- the book is the one that is named
@@ -138,6 +143,9 @@ AsksForReport word rows (Activity account length first last format) =
     (word ≡ codes "activity") × (option_map string_bytes account ≡ first_of (codes "account") rows) × (length ≡ length_of rows)
     × (first ≡ day_of (codes "first") rows) × (last ≡ day_of (codes "last") rows) × (format ≡ format_of rows)
 AsksForReport word rows Journal = word ≡ codes "journal"
+AsksForReport word rows (Page name first last day saying) =
+    (word ≡ codes "page") × (string_bytes name ≡ file_name (value_of (codes "book") rows)) × (first ≡ day_of (codes "first") rows)
+    × (last ≡ day_of (codes "last") rows) × (day ≡ day_of (codes "day") rows) × (saying ≡ saying_of rows)
 AsksForReport word rows Dump = word ≡ codes "dump"
 
 -- a word with the values of its options asks for the action

@@ -194,6 +194,17 @@ pub enum Report {
     },
     /// Its entries.
     Journal,
+    /// The book as one page of HTML: what its sales gained from the first day to the last, both included, what it held at the end of
+    /// the last, at the prices of a day, and its entries on those days. Without a day that end of the range is open, and the
+    /// prices are those of the last day.
+    Page {
+        /// The name of the file of the book, without the folders before it.
+        name: String,
+        first: Option<Day>,
+        last: Option<Day>,
+        day: Option<Day>,
+        saying: Saying,
+    },
     /// Its entries, between two lines by which the book can be made again.
     Dump,
 }

@@ -4,8 +4,10 @@
 //! - `batch`: the names of batches.
 //! - `start`: the numbers at which a run may start.
 //! - `program`: the subcommands, with their help; `options`: their options.
-//! - `words`: from arguments to a request (`parse_words`); `values`: what the values of options
-//!   say; `needed`: which options a call needs; `without`: which entries of a dump are left out.
+//! - `words`: from arguments to a request (`parse_words`); `needed`: which options a call needs;
+//!   `given`: which are given; `good`: which of their values are outside their rules; `values`: what
+//!   the values say; `effect`: how a call is to be done; `without`: which entries of a dump are left
+//!   out.
 //! - `required`: what `clap` says of an import that lacks an option.
 //! - `fault`: why arguments give no request.
 //! - `laws`: what holds of the definitions that the contracts cite.
@@ -13,7 +15,10 @@
 
 mod action;
 mod batch;
+mod effect;
 mod fault;
+mod given;
+mod good;
 pub mod laws;
 mod needed;
 mod options;

@@ -5,7 +5,7 @@ ghost use Rattle.lot_args.specs.Options.{has_profile, has_row, is_shown, lacks_b
 ghost use Rattle.lot_args.specs.Options.{names_accounts, names_book, speaks_of_book};
 
 use crate::fault::Needed;
-use crate::values::{is_given, is_set};
+use crate::given::{is_given, is_set};
 use clap::ArgMatches;
 
 /// Returns what a call of the subcommand needs of which it lacks some, where `clap` doesn't ask for that.

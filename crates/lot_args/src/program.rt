@@ -56,7 +56,7 @@ const PROGRAM: Word = Word {
 };
 
 /// The subcommands, in the order in which the help lists them.
-const WORDS: [Word; 14] = [
+const WORDS: [Word; 15] = [
     // `init --book FILE [--dry-run]`
     Word {
         name: "init",
@@ -190,7 +190,7 @@ const WORDS: [Word; 14] = [
     Word {
         name: "register",
         brief: "Prints what moved an account of a book, leg by leg",
-        about: "Prints what moved an account of a book, leg by leg in the order of days, with what is left behind each: lotbook register --book family.book --account Assets:Broker --first 2024-01-01 --last 2024-12-31\n\nWhat is left counts from the first leg of the book on, of each commodity in each account, plain units and lots together. It takes 16 bytes of memory for each leg of these accounts.",
+        about: "Prints what moved an account of a book, leg by leg in the order of days, with what is left behind each: lotbook register --book family.book --account Assets:Broker --first 2024-01-01 --last 2024-12-31\n\nWhat is left counts from the first leg of the book on, of each commodity in each account, plain units and lots together. Where a day of the book falls behind an earlier entry's, it takes 16 bytes of memory for each leg of these accounts.",
         options: &[
             BOOK,
             QUIET,
@@ -254,6 +254,36 @@ const WORDS: [Word; 14] = [
         brief: "Prints the accepted commands of a book as ledger text",
         about: "Prints the accepted commands of a book as ledger text: lotbook journal --book family.book > family.ledger",
         options: &[BOOK, QUIET],
+    },
+    // `page --book FILE [--first DAY] [--last DAY] [--day DAY] [--digest]`
+    Word {
+        name: "page",
+        brief: "Prints a book as one page of HTML that any browser opens",
+        about: "Prints a book as one page of HTML that any browser opens, without a network: lotbook page --book family.book --first 2024-01-01 --last 2024-12-31 > book.html\n\nIt has what sales gained by year and by commodity, what is held, with its worth and plots of it, the sales with their lots, and the journal. The numbers are those of the other reports.",
+        options: &[
+            BOOK,
+            QUIET,
+            WordOption {
+                form: Form::Optional("DAY"),
+                name: "first",
+                help: "The first day whose sales and entries are on the page, as in --first 2024-01-01. Without it they begin with the book",
+            },
+            WordOption {
+                form: Form::Optional("DAY"),
+                name: "last",
+                help: "The last day of them, at whose end holdings are, as in --last 2024-12-31. Without it all of the book counts",
+            },
+            WordOption {
+                form: Form::Optional("DAY"),
+                name: "day",
+                help: "The day of the prices of what is held, as in --day 2024-12-31. Without it the last day, or else the last prices",
+            },
+            WordOption {
+                form: Form::Flag,
+                name: "digest",
+                help: "Puts the SHA-256 on it with which the dump of the book ends",
+            },
+        ],
     },
     // `dump --book FILE`
     Word {

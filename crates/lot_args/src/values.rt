@@ -1,33 +1,31 @@
-//! What the values of options say, and which are outside their rules.
+//! What the values of options say.
 //!
 //! All values are looked at before one is kept: what keeps one knows that it is within its rule.
-ghost use Rattle.std.specs.Prelude.{◌≡◌, false, IfOk, IsTrue, [], ◌∷◌, None, codes, filter_map, map, option_map};
+ghost use Rattle.std.specs.Prelude.{◌≡◌, IfOk, IsTrue, None, codes, false, filter_map, map};
+ghost use Rattle.std.specs.Prelude.{option_map};
 ghost use Rattle.lot_base.specs.Name.{is_commodity, is_label, is_root};
 ghost use Rattle.std.specs.List.{list_all};
 ghost use Rattle.std.specs.String.{string_bytes};
-ghost use Rattle.clap.specs.Words.{all_of, first_of, found_of, rows_of};
-ghost use Rattle.lot_args.specs.Activity.{is_above_accounts, length_named, length_of, names_account};
+ghost use Rattle.clap.specs.Words.{first_of, found_of, rows_of};
+ghost use Rattle.lot_args.specs.Activity.{is_above_accounts, length_named, length_of};
+ghost use Rattle.lot_args.specs.Activity.{names_account};
 ghost use Rattle.lot_args.specs.Batch.{is_batch};
-ghost use Rattle.lot_args.specs.Options.{account_options, day_of, except_of, first_bad, has_account, has_profile, has_rounding};
-ghost use Rattle.lot_args.specs.Options.{is_format, is_good, is_good_account, is_given, is_set, misplaced, name_of, options_of};
-ghost use Rattle.lot_args.specs.Options.{rounding_options, value_of};
+ghost use Rattle.lot_args.specs.Options.{account_options, day_of, except_of, first_bad};
+ghost use Rattle.lot_args.specs.Options.{has_account, has_profile, has_rounding, is_format};
+ghost use Rattle.lot_args.specs.Options.{is_good, name_of, rounding_options, value_of};
 ghost use Rattle.lot_args.specs.From.{from_of};
 ghost use Rattle.lot_args.specs.Keys.{are_keys, key_named, keys_in, keys_of, parts_of};
 ghost use Rattle.lot_args.specs.Number.{number_of};
 ghost use Rattle.lot_args.specs.Rounding.{decimals_of, named_bound, rounding_of, within_of};
-ghost use Rattle.lot_args.specs.Preview.{effect_of, gains_option, preview_asked};
-ghost use Rattle.lot_args.specs.Words.{accounts_of, format_of, keeping_by_profile, keeping_in, keeping_of, keeping_told};
-ghost use Rattle.lot_args.specs.Words.{notes_of, saying_of};
-ghost use Rattle.lot_args.specs.Words.{strictness_of, tolerance_of};
+ghost use Rattle.lot_args.specs.Words.{accounts_of, format_of};
 
-use crate::action::{Format, Keeping, Saying};
+use crate::action::Format;
 use crate::batch::{Batch, BatchFault};
 use crate::fault::BadOption;
-use crate::needed::{has_profile, has_row, is_shown, speaks_of_book};
+use crate::given::{all_given, given, is_given, value};
+use crate::needed::has_profile;
 use crate::options::MOST_DECIMALS;
-use crate::request::{Effect, Notes, Preview};
 use crate::start::Start;
-use crate::without::all_name_entries;
 use clap::ArgMatches;
 use lot_base::{Account, Commodity, Day, Label};
 use lot_import::Accounts;
@@ -35,199 +33,13 @@ use lot_num::Units;
 use lot_period::PeriodLength;
 use lot_rounding::{Bound, Decimals, Rounding};
 use lot_tally::GainKey;
-use lot_without::{By, Strictness, Tolerance};
 use std::alloc::{AllocError, Global};
 
 /// The number of the first command or row to run where none is given.
-const FIRST: u32 = 1;
-
-/// Returns the first option of these whose value is outside its rule.
-pub(crate) fn first_bad(all: &[BadOption], options: &ArgMatches<'_>) -> Option<BadOption>
-    ensures { result ≡ first_bad (rows_of (found_of options.now)) all.now }
-{
-    for option in all.iter() {
-        if !is_good(options, *option) {
-            return Some(*option);
-        }
-    }
-    None
-}
-
-/// Returns the options of a subcommand whose values this project tests, in the order of the table in docs/RULES.md.
-pub(crate) fn options_of(word: &str) -> &'static [BadOption]
-    ensures { result.now ≡ options_of word.now }
-{
-    match word {
-        "post" => &[
-            BadOption::PostBatch,
-            BadOption::RowOf,
-            BadOption::Ref,
-            BadOption::Rounding,
-            BadOption::Within,
-            BadOption::Decimals,
-            BadOption::PostGains,
-            BadOption::Holdings,
-            BadOption::From,
-        ],
-        "import" => &[
-            BadOption::Show,
-            BadOption::KeepAccepted,
-            BadOption::Batch,
-            BadOption::Invest,
-            BadOption::Cash,
-            BadOption::Fees,
-            BadOption::Gains,
-            BadOption::Except,
-            BadOption::Rounding,
-            BadOption::Within,
-            BadOption::Decimals,
-            BadOption::Sales,
-            BadOption::Holdings,
-            BadOption::From,
-        ],
-        "holdings" => &[BadOption::AsOf, BadOption::Day, BadOption::Format],
-        "gains" => &[
-            BadOption::First,
-            BadOption::Last,
-            BadOption::By,
-            BadOption::Format,
-        ],
-        "register" => &[
-            BadOption::Account,
-            BadOption::Commodity,
-            BadOption::First,
-            BadOption::Last,
-            BadOption::Format,
-        ],
-        "activity" => &[
-            BadOption::Account,
-            BadOption::First,
-            BadOption::Last,
-            BadOption::Period,
-            BadOption::Format,
-        ],
-        "reconcile" => &[BadOption::Account, BadOption::AsOf, BadOption::Format],
-        "restore" => &[
-            BadOption::Without,
-            BadOption::WithoutBatch,
-            BadOption::WithoutEntries,
-        ],
-        _ => &[],
-    }
-}
-
-/// Returns the options of a rounding account: the account, and what goes with it.
-pub(crate) fn rounding_options() -> &'static [BadOption]
-    ensures { result.now ≡ rounding_options }
-{
-    &[BadOption::Rounding, BadOption::Within, BadOption::Decimals]
-}
-
-/// Returns the first option of a rounding account that is given before a subcommand.
-pub(crate) fn misplaced(before: &ArgMatches<'_>) -> Option<BadOption>
-    ensures { result ≡ misplaced (rows_of (found_of before.now)) }
-{
-    rounding_options()
-        .iter()
-        .copied()
-        .find(|option| is_given(before, option.name()))
-}
-
-/// Returns whether the value of an option is within its rule.
-fn is_good(options: &ArgMatches<'_>, option: BadOption) -> bool
-    ensures { result ≡ is_good (rows_of (found_of options.now)) option }
-{
-    let name = option.name();
-    match option {
-        BadOption::Show => !is_shown(options) || (has_profile(options) && !speaks_of_book(options)),
-        BadOption::KeepAccepted => {
-            !is_set(options, name) || (has_profile(options) && !is_set(options, "all-or-none"))
-        }
-        BadOption::Batch => is_shown(options) || Batch::is_name(value(options, name)),
-        BadOption::PostBatch if has_row(options) => !is_given(options, name),
-        BadOption::PostBatch => Batch::is_name(value(options, name)),
-        BadOption::RowOf => !has_row(options) || Batch::is_name(value(options, name)),
-        BadOption::Ref if has_row(options) => Label::is_name(value(options, name)),
-        BadOption::Ref => !is_given(options, name),
-        BadOption::From => {
-            !(has_row(options) || has_profile(options)) || from(options).number() == FIRST
-        }
-        BadOption::Invest | BadOption::Cash | BadOption::Fees | BadOption::Gains => {
-            is_good_account(options, name)
-        }
-        BadOption::Except => match all_given(options, name) {
-            Some(texts) => are_labels(texts),
-            None => true,
-        },
-        BadOption::Rounding => {
-            !has_rounding(options)
-                || (!has_profile(options) && Account::is_name(value(options, name)))
-        }
-        BadOption::Within if has_rounding(options) => match given(options, name) {
-            Some(text) => bound_of(text).is_some(),
-            None => true,
-        },
-        BadOption::Decimals if has_rounding(options) => true,
-        BadOption::Within | BadOption::Decimals => !is_given(options, name),
-        BadOption::PostGains | BadOption::Sales | BadOption::Holdings => {
-            !is_set(options, name) || is_set(options, "dry-run")
-        }
-        BadOption::Account => match given(options, name) {
-            Some(text) => names_account(text),
-            None => true,
-        },
-        BadOption::Commodity => match given(options, name) {
-            Some(text) => Commodity::is_name(text),
-            None => true,
-        },
-        BadOption::Day | BadOption::AsOf | BadOption::First | BadOption::Last => match given(
-            options, name,
-        ) {
-            Some(text) => Day::parse(text).is_ok(),
-            None => true,
-        },
-        BadOption::By => match given(options, name) {
-            Some(text) => are_keys(text),
-            None => true,
-        },
-        BadOption::Period => match given(options, name) {
-            Some(text) => length_named(text).is_some(),
-            None => true,
-        },
-        BadOption::Format => match given(options, name) {
-            Some(text) => is_format(text),
-            None => true,
-        },
-        BadOption::Without => all_name_entries(options, name, By::Key),
-        BadOption::WithoutBatch => all_name_entries(options, name, By::Batch),
-        BadOption::WithoutEntries => all_name_entries(options, name, By::Entries),
-    }
-}
-
-/// Returns whether each text is a label.
-fn are_labels(texts: &[&str]) -> bool
-    ensures { result ≡ list_all is_label (map (λ text. text.now) texts.now) }
-{
-    for text in texts {
-        if !Label::is_name(text) {
-            return false;
-        }
-    }
-    true
-}
-
-/// Returns whether an account option of an import is within its rule: beside a profile it isn't given.
-fn is_good_account(options: &ArgMatches<'_>, name: &str) -> bool
-    ensures { result ≡ is_good_account name.now (rows_of (found_of options.now)) }
-{
-    if has_profile(options) {
-        return !is_given(options, name);
-    }
-    Account::is_name(value(options, name))
-}
+pub(crate) const FIRST: u32 = 1;
 
 /// Returns whether a rounding account is named.
-fn has_rounding(options: &ArgMatches<'_>) -> bool
+pub(crate) fn has_rounding(options: &ArgMatches<'_>) -> bool
     ensures { result ≡ has_rounding (rows_of (found_of options.now)) }
 {
     is_given(options, "rounding")
@@ -353,7 +165,7 @@ fn within(options: &ArgMatches<'_>) -> Bound
 }
 
 /// Returns the bound that a text names, or `None` where it names none.
-fn bound_of(text: &str) -> Option<Bound>
+pub(crate) fn bound_of(text: &str) -> Option<Bound>
     ensures { result ≡ named_bound text.now }
 {
     Bound::new(Units::parse_total(text).ok()?)
@@ -375,7 +187,7 @@ pub(crate) fn day(options: &ArgMatches<'_>, option: BadOption) -> Option<Day>
 }
 
 /// Returns whether a text names keys of a table of gains, joined by commas.
-fn are_keys(text: &str) -> bool
+pub(crate) fn are_keys(text: &str) -> bool
     ensures { result ≡ are_keys text.now }
 {
     text.split(',').all(|part| key_named(part).is_some())
@@ -434,7 +246,7 @@ fn key_named(name: &str) -> Option<GainKey>
 }
 
 /// Returns whether a text names an account, or with a colon at its end all accounts whose names begin with it.
-fn names_account(text: &str) -> bool
+pub(crate) fn names_account(text: &str) -> bool
     ensures { result ≡ names_account text.now }
 {
     match text.strip_suffix(":") {
@@ -499,7 +311,7 @@ pub(crate) fn period_length(options: &ArgMatches<'_>) -> PeriodLength
 }
 
 /// Returns the length of periods that has that name.
-fn length_named(name: &str) -> Option<PeriodLength>
+pub(crate) fn length_named(name: &str) -> Option<PeriodLength>
     ensures { result ≡ length_named name.now }
 {
     match name {
@@ -511,7 +323,7 @@ fn length_named(name: &str) -> Option<PeriodLength>
 }
 
 /// Returns whether a text says how a report is written.
-fn is_format(text: &str) -> bool
+pub(crate) fn is_format(text: &str) -> bool
     ensures { result ≡ is_format text.now }
 {
     text == "text" || text == "csv"
@@ -542,131 +354,6 @@ fn number_or(options: &ArgMatches<'_>, name: &str, other: u32) -> u32
     options.get_one::<u32>(name).unwrap_or(other)
 }
 
-/// Returns what a call of the subcommand may leave in the book.
-pub(crate) fn effect(word: &str, options: &ArgMatches<'_>) -> Effect
-    ensures { result ≡ effect_of word.now (rows_of (found_of options.now)) }
-{
-    if is_set(options, "dry-run") {
-        return Effect::DryRun(preview(word, options));
-    }
-    Effect::Keep
-}
-
-/// Returns what is told of the book that a dry run of the subcommand would leave.
-fn preview(word: &str, options: &ArgMatches<'_>) -> Preview
-    ensures { result ≡ preview_asked word.now (rows_of (found_of options.now)) }
-{
-    let gains = is_set(options, gains_option(word));
-    if is_set(options, "holdings") {
-        return if gains {
-            Preview::GainsAndHoldings
-        } else {
-            Preview::Holdings
-        };
-    }
-    if gains {
-        return Preview::Gains;
-    }
-    Preview::Nothing
-}
-
-/// Returns the name of the option that asks for the gains of the sales which a dry run would add. That of `import` which is called
-/// `gains` names an account.
-fn gains_option(word: &str) -> &'static str
-    ensures { result.now ≡ gains_option word.now }
-{
-    match word {
-        "import" => "sales",
-        _ => "gains",
-    }
-}
-
-/// Returns which commits keep the commands of a call of the subcommand. In a dry run that is so where something is told of the book
-/// that it would leave; else `--all-or-none` changes nothing.
-pub(crate) fn keeping(word: &str, options: &ArgMatches<'_>) -> Keeping
-    ensures { result ≡ keeping_of word.now (rows_of (found_of options.now)) }
-{
-    if is_set(options, "all-or-none") {
-        return keeping_in(effect(word, options), Keeping::AllOrNone);
-    }
-    Keeping::Each
-}
-
-/// Returns which commits keep the commands of an import by a profile: one for all, unless `--keep-accepted` is given. In a dry run
-/// that is so where something is told of the book that it would leave.
-pub(crate) fn keeping_by_profile(options: &ArgMatches<'_>) -> Keeping
-    ensures { result ≡ keeping_by_profile (rows_of (found_of options.now)) }
-{
-    if is_set(options, "keep-accepted") {
-        return Keeping::Each;
-    }
-    keeping_in(effect("import", options), Keeping::AllOrNone)
-}
-
-/// Returns which commits keep the commands of a call with that effect, where these are asked for.
-fn keeping_in(effect: Effect, asked: Keeping) -> Keeping
-    ensures { result ≡ keeping_in effect asked }
-{
-    match effect {
-        Effect::Keep => asked,
-        Effect::DryRun(preview) => keeping_told(preview, asked),
-    }
-}
-
-/// Returns which commits keep the commands of a dry run of which that is told: one for each where that is nothing.
-fn keeping_told(preview: Preview, asked: Keeping) -> Keeping
-    ensures { result ≡ keeping_told preview asked }
-{
-    match preview {
-        Preview::Nothing => Keeping::Each,
-        Preview::Gains | Preview::Holdings | Preview::GainsAndHoldings => asked,
-    }
-}
-
-/// Returns whether a dump has to be what it says at its end.
-pub(crate) fn strictness(options: &ArgMatches<'_>) -> Strictness
-    ensures { result ≡ strictness_of (rows_of (found_of options.now)) }
-{
-    if is_set(options, "edited") {
-        return Strictness::Edited;
-    }
-    Strictness::Unchanged
-}
-
-/// Returns what becomes of a dump one of whose commands is refused.
-pub(crate) fn tolerance(options: &ArgMatches<'_>) -> Tolerance
-    ensures { result ≡ tolerance_of (rows_of (found_of options.now)) }
-{
-    if is_set(options, "keep-going") {
-        return Tolerance::KeepGoing;
-    }
-    Tolerance::AllAccepted
-}
-
-/// Returns what is written of a book that is verified.
-pub(crate) fn saying(options: &ArgMatches<'_>) -> Saying
-    ensures { result ≡ saying_of (rows_of (found_of options.now)) }
-{
-    if is_set(options, "digest") {
-        return Saying::Digest;
-    }
-    Saying::Verified
-}
-
-/// Returns which notes a call asks for, by the options before and behind its subcommand. Where `--quiet` is given,
-/// `--explain-all` changes nothing.
-pub(crate) fn notes(before: &ArgMatches<'_>, options: &ArgMatches<'_>) -> Notes
-    ensures { result ≡ notes_of (rows_of (found_of before.now)) (rows_of (found_of options.now)) }
-{
-    if is_set(before, "quiet") || is_set(options, "quiet") {
-        return Notes::Quiet;
-    }
-    if is_set(before, "explain-all") || is_set(options, "explain-all") {
-        return Notes::All;
-    }
-    Notes::Ten
-}
-
 /// Returns the text that the value of an option is, where it is given. The only error is out of memory.
 pub(crate) fn text(
     alloc: Global,
@@ -680,45 +367,4 @@ pub(crate) fn text(
         Some(text) => Ok(Some(String::from_str(alloc, text)?)),
         None => Ok(None),
     }
-}
-
-/// Returns whether an option without a value is given: `clap` gives it the value `true`, and else `false`.
-pub(crate) fn is_set(options: &ArgMatches<'_>, name: &str) -> bool
-    ensures { result ≡ is_set name.now (rows_of (found_of options.now)) }
-{
-    match given(options, name) {
-        Some(text) => text == "true",
-        None => false,
-    }
-}
-
-/// Returns the value of an option, or the empty text where it isn't given. `clap` has refused arguments that lack a
-/// required option.
-pub(crate) fn value<'a>(options: &ArgMatches<'a>, name: &str) -> &'a str
-    ensures { result.now ≡ value_of name.now (rows_of (found_of options.now)) }
-{
-    given(options, name).unwrap_or("")
-}
-
-/// Returns whether an option is given.
-pub(crate) fn is_given(options: &ArgMatches<'_>, name: &str) -> bool
-    ensures { result ≡ is_given name.now (rows_of (found_of options.now)) }
-{
-    given(options, name).is_some()
-}
-
-/// Returns all values of an option where it is given, in the order in which they are given.
-pub(crate) fn all_given<'m, 'a>(options: &'m ArgMatches<'a>, name: &str) -> Option<&'m [&'a str]>
-    ensures { option_map (λ texts. map (λ text. text.now) texts.now) result
-        ≡ all_of name.now (rows_of (found_of options.now)) }
-{
-    options.get_strs(name)
-}
-
-/// Returns the value of an option where it is given.
-fn given<'a>(options: &ArgMatches<'a>, name: &str) -> Option<&'a str>
-    ensures { option_map
-        (λ text. text.now) result ≡ first_of name.now (rows_of (found_of options.now)) }
-{
-    options.get_str(name)
 }

@@ -6,7 +6,7 @@ ghost use Rattle.lot_args.specs.Options.{all_name_entries, names_entries};
 ghost use Rattle.lot_args.specs.Words.{left_out, without_of};
 ghost use Rattle.lot_without.specs.Value.{named};
 
-use crate::values::all_given;
+use crate::given::all_given;
 use clap::ArgMatches;
 use lot_without::{By, Without};
 use std::alloc::{AllocError, Global};

@@ -2,27 +2,30 @@ ghost use Rattle.std.specs.Prelude.{◌≡◌, ◌≢◌, codes, false, true, Er
 ghost use Rattle.std.specs.String.{string_bytes};
 ghost use Rattle.clap.specs.Words.{IsAmong, app_of, fault_of, found_of, kind_of, rows_of, takes};
 ghost use Rattle.clap.specs.declared.error.ErrorKind.TheVariants.{OutOfMemory};
-ghost use Rattle.lot_args.specs.Options.{first_bad, has_profile, is_shown, options_of};
+ghost use Rattle.lot_args.specs.Options.{first_bad, has_profile, is_shown, options_of, value_of};
 ghost use Rattle.lot_args.specs.declared.fault.Needed.{Needed};
 ghost use Rattle.lot_args.specs.Program.{program_app};
 ghost use Rattle.lot_args.specs.Steps.{IsBookWord, IsWord, JudgesOptions};
 ghost use Rattle.lot_args.specs.Words.{Ask, AskFor, HaveBadIn, HaveMisplaced, HaveNoneBad, LackSome, WordAsks, WordRequests};
-ghost use Rattle.lot_args.specs.Words.{AsksForReport, AsksToImport};
+ghost use Rattle.lot_args.specs.Words.{AsksForReport, AsksToImport, file_name};
 ghost use Rattle.lot_args.specs.declared.fault.WordsFault.TheVariants.{BadValue, Misplaced, MissingOptions, Usage};
 
 use crate::action::{Action, AskedImport, Import, Post, Reconcile, Report, Restore};
+use crate::effect::{effect, keeping, keeping_by_profile, notes, saying, strictness, tolerance};
 use crate::fault::{BadOption, WordsFault};
+use crate::given::{is_given, value};
+use crate::good::{first_bad, misplaced, options_of, rounding_options};
 use crate::needed::{has_profile, has_row, is_shown, missing};
 use crate::program::program;
 use crate::request::{Effect, Request};
 use crate::values::{
-    accounts, batch, commodity, day, effect, except, first_bad, format, from, is_given, keeping,
-    keeping_by_profile, keys, misplaced, notes, options_of, period_length, reference, rounding,
-    rounding_options, saying, strictness, text, tolerance, value,
+    accounts, batch, commodity, day, except, format, from, keys, period_length, reference,
+    rounding, text,
 };
 use crate::without::without;
 use clap::{ArgMatches, Command};
 use std::alloc::{AllocError, Global};
+use std::path::Path;
 
 /// Returns what the arguments ask for. The first argument is the program's name. Without a subcommand, they ask for a check.
 ///
@@ -238,6 +241,10 @@ fn action(alloc: Global, word: &str, options: &ArgMatches<'_>) -> Result<Action,
             book,
             report: Report::Journal,
         }),
+        "page" => Ok(Action::Report {
+            report: page(alloc, book.as_str(), options)?,
+            book,
+        }),
         "dump" => Ok(Action::Report {
             book,
             report: Report::Dump,
@@ -315,6 +322,27 @@ fn register(alloc: Global, options: &ArgMatches<'_>) -> Result<Report, AllocErro
         last: day(options, BadOption::Last),
         format: format(options),
     })
+}
+
+/// Returns the page that `page` asks for of the book of that path. The only error is out of memory.
+fn page(alloc: Global, path: &str, options: &ArgMatches<'_>) -> Result<Report, AllocError>
+    requires { path.now ≡ value_of (codes "book") (rows_of (found_of options.now)) }
+    ensures { IfOk result (AsksForReport (codes "page") (rows_of (found_of options.now))) }
+{
+    Ok(Report::Page {
+        name: String::from_str(alloc, file_name(path))?,
+        first: day(options, BadOption::First),
+        last: day(options, BadOption::Last),
+        day: day(options, BadOption::Day),
+        saying: saying(options),
+    })
+}
+
+/// Returns the name of the file of a path, or all of a path that names none.
+fn file_name(path: &str) -> &str
+    ensures { result.now ≡ file_name path.now }
+{
+    Path::new(path).file_name().unwrap_or(path)
 }
 
 /// Returns the report that `activity` asks for. The only error is out of memory.

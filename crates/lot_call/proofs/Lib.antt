@@ -1,3 +1,4 @@
 mod SelectLemmas
 pub mod LookLemmas
 pub mod SumsLemmas
+pub mod ToldLemmas

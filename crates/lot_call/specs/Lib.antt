@@ -1,3 +1,4 @@
+pub mod Call
 pub mod Except
 pub mod Fate
 pub mod Loaded
@@ -6,3 +7,4 @@ pub mod Remains
 pub mod Rounding
 pub mod Status
 pub mod Sums
+pub mod Told

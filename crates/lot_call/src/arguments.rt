@@ -178,6 +178,9 @@ fn example_of(word: &str) -> Option<&'static str> {
             "lotbook reconcile --book family.book --account Assets:Broker --as-of 2024-12-31 < statement.csv",
         ),
         "journal" => Some("lotbook journal --book family.book > family.ledger"),
+        "page" => Some(
+            "lotbook page --book family.book --first 2024-01-01 --last 2024-12-31 > book.html",
+        ),
         "dump" => Some("lotbook dump --book family.book > family.dump"),
         "restore" => Some("lotbook restore --book new.book < family.dump"),
         "verify" => Some("lotbook verify --book family.book"),

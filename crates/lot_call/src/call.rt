@@ -2,6 +2,7 @@
 
 ghost use Rattle.std.specs.Prelude.{◌≡◌};
 ghost use Rattle.std.specs.Option.{option_copied};
+ghost use Rattle.lot_call.specs.Call.{is_quiet, most, runs};
 ghost use Rattle.lot_call.specs.Rounding.{rounding_of};
 
 use lot_args::{Action, Effect, Notes};
@@ -29,12 +30,16 @@ pub struct Call<'a> {
 
 impl Call<'_> {
     /// Returns whether standard error is to stay empty.
-    pub fn is_quiet(&self) -> bool {
+    pub fn is_quiet(&self) -> bool
+        ensures { result ≡ is_quiet self.now.notes }
+    {
         matches!(self.notes, Notes::Quiet)
     }
 
     /// Returns what the call runs on a book one after another, in the plural, where it does so.
-    pub fn runs(&self) -> Option<&'static str> {
+    pub fn runs(&self) -> Option<&'static str>
+        ensures { option_copied result ≡ runs self.now.action.now }
+    {
         match self.action {
             Action::Post(_) | Action::PostRow { .. } => Some("commands"),
             Action::Import(_) | Action::ImportBy(_) => Some("rows"),
@@ -49,7 +54,9 @@ impl Call<'_> {
     }
 
     /// Returns how many refusals are explained.
-    pub fn most(&self) -> u64 {
+    pub fn most(&self) -> u64
+        ensures { result ≡ most self.now.notes }
+    {
         match self.notes {
             Notes::All => u64::MAX,
             Notes::Ten | Notes::Quiet => TEN,

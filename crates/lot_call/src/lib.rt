@@ -9,7 +9,8 @@
 //!   output can't be written; `file_kind`: what stands in the place of its book.
 //! - `crumbs`: what became of the crumbs of commands; `taken`: what an account took of them, with the
 //!   `sums`. `watched`: all that is watched of commands.
-//! - `unpriced`: lots of a report that have no price.
+//! - `unpriced`: lots of a report that have no price; `misnamed`: an account of a report that the book doesn't have; `large`: that
+//!   a page will be large.
 //! - `profile`: the profile of an import, as it is read from its file. `export`: what is said of a broker's export; `exported`: its
 //!   rows, for what is said of those that are refused or left out. `row_fault`: why a row says nothing that can be posted, with its
 //!   `figures` and `signs`. `statement`: what is said of a faulty statement.
@@ -24,6 +25,8 @@ mod facts;
 mod fate;
 mod figures;
 mod file_kind;
+mod large;
+mod misnamed;
 mod notes;
 mod profile;
 mod remains;
@@ -44,12 +47,13 @@ pub use crumbs::Crumbs;
 pub use export::{say_aside, say_export_fault};
 pub use fate::Fate;
 pub use file_kind::FileKind;
+pub use large::Forewarner;
 pub use notes::{say_fate, say_why, sum_up};
 pub use profile::{LoadFault, Loaded, load, loaded_from};
 pub use remains::{say_cut_short, say_unwritten};
 pub use remembered::Remembered;
 pub use statement::say_statement_fault;
-pub use status::{PlainFault, out_of_memory, write_fault};
+pub use status::{PlainFault, out_of_memory, status_behind, write_fault};
 pub use taken::say_taken;
 pub use told::{explain, tell};
 pub use unpriced::Appraiser;

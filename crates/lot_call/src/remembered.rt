@@ -1,6 +1,6 @@
 //! What the book of commands that aren't kept said of them, for what is said once it is dropped.
 
-ghost use Rattle.std.specs.Prelude.{◌≡◌, IsTrue};
+ghost use Rattle.std.specs.Prelude.{◌≡◌, IsTrue, false, true};
 ghost use Rattle.lot_call.specs.Looks.{Looks};
 ghost use Rattle.lot_table.specs.Book.{IsUndone};
 ghost use Rattle.sqlite.specs.State.{HasCleanDisk, Survives};
@@ -30,7 +30,9 @@ pub struct Remembered {
 
 impl Remembered {
     /// Returns none yet, of a call.
-    pub fn of(call: &Call<'_>) -> Remembered {
+    pub fn of(call: &Call<'_>) -> Remembered
+        ensures { result.is_dropped ≡ false }
+    {
         let alloc = call.rt.alloc();
         Remembered {
             alloc,
@@ -52,10 +54,11 @@ impl Remembered {
         ensures undone { HasCleanDisk (D.shown db.new)
             → IsUndone (D.shown db.old) (D.shown db.new) }
         ensures crash { Survives (D.shown db.old) (D.shown db.new) (λ _. ⊥) }
+        ensures dropped { self.new.is_dropped ≡ true }
     {
-        self.is_dropped = true;
         let found = self.look_at_all(db, commands, verdicts);
         note_end(&mut self.known, found);
+        self.is_dropped = true;
     }
 
     /// Looks up the accounts, and what there is to say of each command.

@@ -1,6 +1,6 @@
 //! How a call ends, and what it writes straight to standard output.
 
-ghost use Rattle.std.specs.Prelude.{◌≡◌, OnOk};
+ghost use Rattle.std.specs.Prelude.{◌≡◌, OnOk, if◌then◌else◌};
 ghost use Rattle.std.specs.Io.KnownBytes.{Appends};
 ghost use Rattle.lot_host.specs.Answers.{stopped};
 ghost use Rattle.lot_call.specs.Status.{line_of};
@@ -23,6 +23,14 @@ pub fn out_of_memory(rt: &HostRuntime) -> u8
 {
     let _ = write_fault(&mut rt.stdout(), PlainFault::Memory);
     STOPPED
+}
+
+/// Returns the status of a call that ended with this one, by whether all that it wrote was handed to
+/// the writer.
+pub fn status_behind(status: u8, is_whole: bool) -> u8
+    ensures { result ≡ (if is_whole then status else stopped) }
+{
+    if is_whole { status } else { STOPPED }
 }
 
 /// Writes the line of a fault. It takes no memory.

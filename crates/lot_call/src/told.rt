@@ -1,23 +1,29 @@
 //! What the codes mean, and why the commands of a call were refused.
 
-ghost use Rattle.std.specs.Prelude.{◌≡◌, Some, option_copied};
-ghost use Rattle.lot_host.specs.Answers.{IsShown, IsTold, unusable};
+ghost use Rattle.std.specs.Prelude.{◌≡◌, OnOk, option_copied};
+ghost use Rattle.std.specs.Io.Buffered.{writer_contents};
+ghost use Rattle.lot_explain.specs.Explained.{Lists};
+ghost use Rattle.lot_host.specs.Answers.{IsShown, unusable};
 ghost use Rattle.lot_call.specs.Except.{except_of};
 ghost use Rattle.lot_call.specs.Looks.{IsLookedAt};
 ghost use Rattle.lot_call.specs.Status.{status_shown, status_told};
+ghost use Rattle.lot_call.specs.Told.{AppendsProfile, IsShownSo, Tells, TellsTo, TellsWord};
+ghost use Rattle.lot_call.specs.Told.{names_profile};
 ghost use Rattle.sqlite.specs.Held.{state};
 
 use crate::call::{Call, rounding_of};
 use crate::crumbs::Crumbs;
 use crate::exported::Exported;
 use crate::facts::look_up;
+use crate::misnamed::warn_of_account;
 use crate::remains::say_cut_short;
 use crate::remembered::Remembered;
+use crate::status::status_behind;
 use lot_args::Action;
 use lot_base::Label;
 use lot_command::Key;
 use lot_explain::{Explanation, ExportRows, Source, Transcript, list, nearest_code};
-use lot_output::{Heard, Meter, Output, Pace, Record};
+use lot_output::{Ended, Heard, Meter, Output, Pace, Record};
 use lot_profile_text::{NOTES, SECTIONS, explain_profile};
 use lot_rounding::Asked;
 use lot_stream::{DONE, STOPPED, UNUSABLE};
@@ -28,21 +34,69 @@ use std::io::{self, Write};
 
 /// Tells what a code means, or what all do, or what a profile may say, and returns the status.
 pub fn tell(rt: &HostRuntime, code: Option<&str>) -> u8
-    ensures { IsTold (option_copied code.entry) result }
+    ensures { Tells (option_copied code.entry) result }
 {
     let replies = Meter::of_replies(rt, None);
-    let mut output = Output::new(rt.alloc(), rt.stdout(), Pace::Buffered, replies);
-    let shown = match code {
-        None => list(&mut output),
-        Some("profile") => tell_profile(rt, &mut output),
-        Some(word) => {
-            let told = lot_explain::explain(&mut output, word);
-            output.end();
-            return end_told(rt, word, told);
-        }
+    let output = Output::new(rt.alloc(), rt.stdout(), Pace::Buffered, replies);
+    let (status, _stdout) = tell_to(rt, code, output);
+    status
+}
+
+/// Writes to an output what a code means, or what all do, or what a profile may say. Returns the
+/// status, and what the output was written to.
+fn tell_to<W: Write + Drop>(rt: &HostRuntime, code: Option<&str>, output: Output<'_, W>) -> (u8, W)
+    ensures { TellsTo (option_copied code.entry)
+        (writer_contents W.contents output.entry.buffer) (W.contents result.1) result.0 }
+{
+    let Some(word) = code else {
+        return list_to(rt, output);
     };
-    output.end();
-    end_shown(rt, shown)
+    if names_profile(word) {
+        return profile_to(rt, output);
+    }
+    word_to(rt, word, output)
+}
+
+/// Returns whether a word stands for all that a profile may say.
+fn names_profile(word: &str) -> bool
+    ensures { result ≡ names_profile word.now }
+{
+    word == "profile"
+}
+
+/// Writes all codes to an output. Returns the status, and what the output was written to.
+fn list_to<W: Write + Drop>(rt: &HostRuntime, output: Output<'_, W>) -> (u8, W)
+    ensures { IsShownSo (Lists (writer_contents W.contents output.entry.buffer))
+        (W.contents result.1) result.0 }
+{
+    let mut output = output;
+    let shown = list(&mut output);
+    let Ended { writer, is_whole } = output.end();
+    (status_behind(end_shown(rt, shown), is_whole), writer)
+}
+
+/// Writes to an output all that a profile may say. Returns the status, and what the output was
+/// written to.
+fn profile_to<W: Write + Drop>(rt: &HostRuntime, output: Output<'_, W>) -> (u8, W)
+    ensures { IsShownSo (AppendsProfile (writer_contents W.contents output.entry.buffer))
+        (W.contents result.1) result.0 }
+{
+    let mut output = output;
+    let shown = tell_profile(rt, &mut output);
+    let Ended { writer, is_whole } = output.end();
+    (status_behind(end_shown(rt, shown), is_whole), writer)
+}
+
+/// Writes to an output what a word means, where it names a code or a cause of a faulty row. Returns
+/// the status, and what the output was written to.
+fn word_to<W: Write + Drop>(rt: &HostRuntime, word: &str, output: Output<'_, W>) -> (u8, W)
+    ensures { TellsWord word.now (writer_contents W.contents output.entry.buffer)
+        (W.contents result.1) result.0 }
+{
+    let mut output = output;
+    let told = lot_explain::explain(&mut output, word);
+    let Ended { writer, is_whole } = output.end();
+    (status_behind(end_told(rt, word, told), is_whole), writer)
 }
 
 /// Says that the output is cut short, where it couldn't be written. Returns the status.
@@ -61,8 +115,7 @@ pub(crate) fn end_shown(rt: &HostRuntime, shown: io::Result<()>) -> u8
 
 /// Says that a word is no code, where it is none, or that the output is cut short. Returns the status.
 fn end_told(rt: &HostRuntime, word: &str, told: io::Result<bool>) -> u8
-    ensures status { result ≡ status_told told }
-    ensures told { IsTold (Some word.now) result }
+    ensures { result ≡ status_told told }
 {
     match told {
         Ok(true) => DONE,
@@ -72,7 +125,9 @@ fn end_told(rt: &HostRuntime, word: &str, told: io::Result<bool>) -> u8
 }
 
 /// Writes all that a profile may say.
-fn tell_profile<W: Write>(rt: &HostRuntime, output: &mut W) -> io::Result<()> {
+fn tell_profile<W: Write>(rt: &HostRuntime, output: &mut W) -> io::Result<()>
+    ensures { OnOk result (AppendsProfile (W.contents output.old) (W.contents output.new)) }
+{
     let text = explain_profile(rt.alloc(), &SECTIONS, &NOTES)?;
     output.write_all(text.as_bytes())?;
     output.flush()
@@ -91,10 +146,25 @@ fn unknown(rt: &HostRuntime, word: &str) -> u8
     UNUSABLE
 }
 
-/// Says on standard error why commands were refused, what a fault means, which rows were left out, and what was perhaps read
-/// otherwise than it was meant. What is said of commands that aren't kept is by the book that they had made, else by the book as
+/// Says on standard error why commands were refused, what a fault means, which rows were left out, and what was perhaps meant or
+/// read otherwise. What is said of commands that aren't kept is by the book that they had made, else by the book as
 /// it is, which is looked at alone. Where memory ends or that can't be written, less is said.
 pub fn explain<'a, S: Alter>(
+    call: &'a Call<'a>,
+    read: &'a Record,
+    heard: &'a Heard,
+    crumbs: &'a Crumbs,
+    remembered: &mut Remembered,
+    conn: &mut Connection<S>,
+)
+    ensures { IsLookedAt (state S.Store conn.old) (state S.Store conn.new) }
+{
+    warn_of_account(call, heard, conn);
+    explain_lines(call, read, heard, crumbs, remembered, conn)
+}
+
+/// Says on standard error what there is to say of what a call read, and of the lines that it wrote.
+fn explain_lines<'a, S: Alter>(
     call: &'a Call<'a>,
     read: &'a Record,
     heard: &'a Heard,

@@ -1,5 +1,8 @@
 //! What is watched of a call's commands as they are judged.
 
+ghost use Rattle.std.specs.Prelude.{◌≡◌, [], false};
+ghost use Rattle.lot_call.specs.Sums.{KeepsSums};
+
 use crate::call::Call;
 use crate::crumbs::Crumbs;
 use crate::remembered::Remembered;
@@ -14,7 +17,10 @@ pub struct Watched {
 
 impl Watched {
     /// Returns nothing yet, of a call.
-    pub fn of(call: &Call<'_>) -> Watched {
+    pub fn of(call: &Call<'_>) -> Watched
+        ensures crumbs { KeepsSums [] result.crumbs }
+        ensures remembered { result.remembered.is_dropped ≡ false }
+    {
         Watched {
             crumbs: Crumbs::of(call),
             remembered: Remembered::of(call),

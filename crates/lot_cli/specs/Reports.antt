@@ -19,7 +19,7 @@ use Rattle.lot_cli.specs.Says.{Halts, Says, Told}
 use Rattle.lot_cli.specs.declared.halt.Halt.TheVariants as halt
 use Rattle.lot_args.specs.declared.action.Format.TheVariants.{Csv, Text}
 use Rattle.lot_args.specs.declared.action.Report.{Report}
-use Rattle.lot_args.specs.declared.action.Report.TheVariants.{Holdings, HoldingsOn, Gains, GainsBy, AddedGains, Register, Activity, Journal, Dump}
+use Rattle.lot_args.specs.declared.action.Report.TheVariants.{Holdings, HoldingsOn, Gains, GainsBy, AddedGains, Register, Activity, Journal, Page, Dump}
 use Rattle.lot_book_report.specs.Csv.{ShowsAllHoldingsCsv, ShowsAllSalesCsv, ShowsGainsCsv, ShowsHoldingsCsv, ShowsSomeGainsCsv, ShowsSomeHoldingsCsv}
 use Rattle.lot_book_report.specs.Dump.{ShowsDump, ShowsDumpOfTables, ShowsSomeDump, digest_line, digest_of}
 use Rattle.lot_book_report.specs.declared.digest.BookDigest.{BookDigest}
@@ -29,6 +29,12 @@ use Rattle.lot_activity.specs.Scope.{Asked}
 use Rattle.lot_added_report.specs.Show.{ShowsAddedGains, ShowsAllAddedSales}
 use Rattle.lot_activity.specs.Table.{Terms, terms_with}
 use Rattle.lot_noted.specs.Book.{Asked as AskedLegs, register_legs}
+use Rattle.lot_args.specs.declared.action.Saying.{Saying}
+use Rattle.lot_args.specs.declared.action.Saying.TheVariants as saying
+use Rattle.lot_page_report.specs.Page.{ShowsPage, ShowsPageOfTables, ShowsSomePage}
+use Rattle.lot_page_report.specs.Parts.{PageOf}
+use Rattle.lot_page_report.specs.declared.scope.Heading.{Heading}
+use Rattle.lot_page_report.specs.declared.scope.Heading.TheVariants as heading
 use Rattle.lot_period.specs.declared.period.PeriodLength.{PeriodLength}
 use Rattle.lot_register_report.specs.Show.{ShowsAllLegs, ShowsRegister, ShowsSomeRegister}
 use Rattle.lot_sums.specs.Activity.{ShowsActivity, ShowsAllActivity, ShowsSomeActivity}
@@ -136,6 +142,16 @@ terms_for account length first last format = terms_with length (asked_for accoun
 abbrev pub legs_for : {A : Type 0} → String A → Option (List ℕ) → Option ℤ → AskedLegs
 legs_for account commodity last = record { account = string_bytes account; commodity = commodity; last = last }
 
+-- what is said at the head of a page
+abbrev pub heading_for : Saying → Heading
+heading_for saying.Verified = heading.Entries
+heading_for saying.Digest = heading.Digest
+
+-- what a page is of
+abbrev pub page_for : {A : Type 0} → String A → Option ℤ → Option ℤ → Option ℤ → Saying → PageOf
+page_for name first last day asked =
+    record { name = string_bytes name; first = first; last = last; day = day; heading = heading_for asked }
+
 -- what is written for a book: of the book with these entries and that place of migration; of some rows, whatever the tables are;
 -- and of all rows of the tables, where no fault ends it; and with which status a whole one ends
 pub record Writing : Type 1 where
@@ -174,8 +190,9 @@ ShowsAllGainsAs Csv range tables = ShowsAllSalesCsv tables range
 -- How much of a report of a book with these entries and that place of migration is written. The report is of what it holds, or held
 -- at the end of a day, with what its lots are worth on a day; of what its sales gained from the first to the last day, both
 -- included, or of the sums of that by keys; of what the sales of the entries behind a number gained; of the legs of accounts on such
--- days; of what went into accounts and out of them on such days, by period; or of its entries, as a journal or as a dump. All are as
--- text, and all but that of the entries behind a number and the last two also as CSV. The dump alone says the place.
+-- days; of what went into accounts and out of them on such days, by period; or of its entries, as a journal or as a dump; or it is the
+-- page of all of these. All but the page are as text, and all but that of the entries behind a number and the last three also as
+-- CSV. The dump and the page alone say the place.
 abbrev pub ShowsReport : Report → ℕ → List Entry → Option (List ℕ) → Option (List ℕ) → Result (Unit {0}) ShowFault → Type 0
 ShowsReport (Holdings day format) place entries = ShowsHoldingsAs format day entries
 ShowsReport (HoldingsOn on day format) place entries = ShowsHoldingsOn (form_of format) on day entries
@@ -186,6 +203,7 @@ ShowsReport (Register account commodity first last format) place entries =
     ShowsRegister (form_of format, first) (register_legs (legs_for account commodity last) entries)
 ShowsReport (Activity account length first last format) place entries = ShowsActivity (terms_for account length first last format) entries
 ShowsReport Journal place entries = ShowsJournal (entry_rows 1 entries)
+ShowsReport (Page name first last day saying) place entries = ShowsPage (page_for name first last day saying) place entries
 ShowsReport Dump place entries = ShowsDump (extent_of place entries) (entry_rows 1 entries)
 
 -- whatever the tables are, the report of some rows is written, or as much of it as its fault leaves
@@ -198,6 +216,7 @@ ShowsSome (AddedGains behind) = ShowsSomeGains
 ShowsSome (Register account commodity first last format) = ShowsSomeRegister (form_of format, first)
 ShowsSome (Activity account length first last format) = ShowsSomeActivity (terms_for account length first last format)
 ShowsSome Journal = ShowsSomeJournal
+ShowsSome (Page name first last day saying) = ShowsSomePage (page_for name first last day saying)
 ShowsSome Dump = ShowsSomeDump
 
 -- Where no fault ends it, the report is that of all rows of its tables, whatever these stand for. The rows are those of plain
@@ -212,6 +231,7 @@ ShowsAllRows (Register account commodity first last format) tables =
     ShowsAllLegs (form_of format, first) (legs_for account commodity last) tables
 ShowsAllRows (Activity account length first last format) tables = ShowsAllActivity (terms_for account length first last format) tables
 ShowsAllRows Journal tables = ShowsAllEntries tables
+ShowsAllRows (Page name first last day saying) tables = ShowsPageOfTables (page_for name first last day saying) tables
 ShowsAllRows Dump tables = ShowsDumpOfTables tables
 
 -- what is written for a report

@@ -58,6 +58,7 @@ pub struct Served<S: Alter> {
 /// - `holdings`, `gains`, `register`, `activity`, `journal` and `dump` take the book up and write the report, each row as it is read,
 ///   or what is summed once all is read. The first four write text or CSV. They read no input and change nothing. Where a report ends
 ///   before its end, one line with the fault follows, unless the writer failed.
+/// - `page` takes the book up and writes it as one page of HTML, of which the same holds.
 /// - `reconcile` reads all that the reader has as a statement. Then the book is taken up, and it writes what differs between the two.
 ///   A fault of the input goes before one of the book. It changes nothing.
 /// - `restore` makes a book of the dump that the reader has, in a database without tables. Each command is judged again, and one

@@ -2,10 +2,11 @@
 ghost use Rattle.std.specs.Prelude.{◌≡◌, None, Option, false, option_map};
 ghost use Rattle.lot_activity.specs.Scope.{asked_in};
 ghost use Rattle.lot_noted.specs.Book.{asked_in as legs_in};
+ghost use Rattle.lot_page_report.specs.Parts.{page_in};
 ghost use Rattle.lot_io.specs.Writes.{WriteCalls, writes_between};
 ghost use Rattle.lot_stream.specs.Status.{IsStatus};
 ghost use Rattle.lot_stream.specs.declared.status.Status.TheVariants.{Stopped};
-ghost use Rattle.lot_cli.specs.Reports.{Concludes, Reports, ShowsReport, ShowsAllRows, ShowsSome, asked_for, form_of, legs_for, report_line};
+ghost use Rattle.lot_cli.specs.Reports.{Concludes, Reports, ShowsReport, ShowsAllRows, ShowsSome, asked_for, form_of, legs_for, page_for, report_line};
 ghost use Rattle.lot_cli.specs.Reports.{ShowsAllGainsAs, ShowsAllHoldingsAs, ShowsGainsAs, ShowsHoldingsAs, ShowsSomeGainsAs, ShowsSomeHoldingsAs};
 ghost use Rattle.lot_cli.specs.Reports.{ShowsBook, ShowsDigest, ShowsDigestOfTables, ShowsSomeDigest, digest_writing, written_for};
 ghost use Rattle.lot_cli.specs.Says.{Says, told};
@@ -23,7 +24,7 @@ use crate::halt::Halt;
 use crate::run::{halted, tell};
 use lot_activity::Scope;
 use lot_added_report::show_added_gains;
-use lot_args::{Format, Report};
+use lot_args::{Format, Report, Saying};
 use lot_base::{Commodity, Day};
 use lot_book_report::{
     ShowFault, digest_book, show_dump, show_gains, show_gains_csv, show_holdings,
@@ -31,6 +32,7 @@ use lot_book_report::{
 };
 use lot_io::CountedWrite;
 use lot_noted::RegisterScope;
+use lot_page_report::{Heading, PageScope, show_page};
 use lot_register_report::show_register;
 use lot_report::print_texts;
 use lot_store::{Book, HandedBack, adopt};
@@ -162,6 +164,16 @@ fn show<W: CountedWrite, S: Alter>(
             show_activity(alloc, book, *length, &scope, form_of(*format), writer)
         }
         Report::Journal => show_journal(book, writer),
+        Report::Page {
+            name,
+            first,
+            last,
+            day,
+            saying,
+        } => {
+            let scope = page_of(name, *first, *last, *day, *saying);
+            show_page(alloc, book, &scope, writer)
+        }
         Report::Dump => show_dump(book, writer),
     }
 }
@@ -239,6 +251,28 @@ fn text_of(commodity: &Option<Commodity>) -> Option<&str>
     match commodity {
         Some(commodity) => Some(commodity.as_str()),
         None => None,
+    }
+}
+
+/// Returns what a page is of.
+fn page_of<'a>(
+    name: &'a String,
+    first: Option<Day>,
+    last: Option<Day>,
+    day: Option<Day>,
+    saying: Saying,
+) -> PageScope<'a>
+    ensures { page_in result ≡ page_for name.now first last day saying }
+{
+    PageScope {
+        name: name.as_str(),
+        first,
+        last,
+        day,
+        heading: match saying {
+            Saying::Verified => Heading::Entries,
+            Saying::Digest => Heading::Digest,
+        },
     }
 }
 

@@ -1,5 +1,5 @@
-//! The causes for which a row is faulty, as data: of a broker file, and of an export that is imported by a profile (docs/FORMATS.md,
-//! Faults).
+//! The causes for which a row is faulty, as data: of a broker file, of an export that is imported by a profile, and of a statement
+//! (docs/FORMATS.md, Faults).
 
 use std::fmt;
 
@@ -31,8 +31,8 @@ pub(crate) fn causes() -> &'static [Cause] {
     &CAUSES
 }
 
-/// Those of an export, then those of a broker file alone.
-pub(crate) static CAUSES: [Cause; 38] = [
+/// Those of an export, then those of a broker file alone, then one of a statement alone.
+pub(crate) static CAUSES: [Cause; 39] = [
     Cause {
         name: "NoTable",
         brief: "it is a row of no table of the profile",
@@ -201,7 +201,7 @@ pub(crate) static CAUSES: [Cause; 38] = [
     Cause {
         name: "Units",
         brief: "units isn't a number of units, or is below zero",
-        help: "decimals stand behind a point; SELL says that they go out",
+        help: "decimals stand behind a point; in a broker file SELL says that they go out",
     },
     Cause {
         name: "Price",
@@ -222,5 +222,10 @@ pub(crate) static CAUSES: [Cause; 38] = [
         name: "Lot",
         brief: "lot isn't the label of a lot",
         help: "of a purchase lot is empty or its ref",
+    },
+    Cause {
+        name: "Repeated",
+        brief: "the commodity stands in a row above, in a statement",
+        help: "give each commodity once, with the sum of its units",
     },
 ];

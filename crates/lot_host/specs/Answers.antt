@@ -1,5 +1,5 @@
 -- The status of words that ask for nothing to be done.
-use Rattle.std.specs.Prelude.{◌≡◌, ◌≢◌, ◌⊎◌, ℕ, List, Option, None, Some}
+use Rattle.std.specs.Prelude.{◌≡◌, ◌≢◌, ◌⊎◌, ℕ}
 use Rattle.clap.specs.Words.{kind_of}
 use Rattle.clap.specs.declared.error.ErrorKind.{ErrorKind}
 use Rattle.clap.specs.declared.error.ErrorKind.TheVariants.{DisplayHelp, DisplayVersion}
@@ -33,8 +33,3 @@ IsStatusOf (MissingOptions needed) status = status ≡ unusable
 IsStatusOf (BadValue bad) status = status ≡ unusable
 IsStatusOf Unmatched status = status ≡ stopped
 IsStatusOf Memory status = status ≡ stopped
-
--- The status of a code that is explained, or of a word that names none. Without a word all codes are shown.
-abbrev pub IsTold : Option (List ℕ) → ℕ → Type 0
-IsTold None status = IsShown status
-IsTold (Some word) status = IsShown status ⊎ (status ≡ unusable)

@@ -1,5 +1,6 @@
 -- Looking up the day of an entry: rows of other numbers are passed over, up to the one of the entry.
 use Rattle.std.proofs.Common.{◌≡◌, ◌≢◌, ◌∙◌, ◌⊎◌, inl, inr, ℕ, ℤ, List, [], ◌∷◌, ◌++◌, Option, None, Some, Result, Ok, Err, IfErr, IfOk, refl, sym, ap, subst}
+use Rattle.std.specs.Prelude.{MatchOption}
 use Rattle.std.specs.List.{AllByRecursion}
 use Rattle.std.proofs.lemmas.List.{append-nil, append_assoc}
 use Rattle.sqlite.specs.State.{State}
@@ -21,7 +22,7 @@ use Rattle.lot_table.specs.declared.fault.Fault.{Fault}
 use Rattle.lot_table.specs.declared.fault.Fault.TheVariants.{Damaged, Device, Memory}
 use Rattle.lot_walk.proofs.PlaceLemmas.{failed_after, has_still, stays_itself, stays_then}
 use Rattle.lot_walk.proofs.StepLemmas.{left_then, stays_left, undone_left}
-use Rattle.lot_legs.specs.Days.{AreBehind, FindsDay, HasDay, IsAt, IsLast, IsLeft, LooksUp, Passes, day_in, known_day}
+use Rattle.lot_legs.specs.Days.{AreBehind, FindsDay, HasDay, HasText, IsAt, IsKnown, IsLast, IsLeft, LooksUp, Passes, day_in, known_day, last_text}
 use Rattle.lot_legs.specs.declared.days.EntryDay.{EntryDay}
 use Rattle.lot_legs.specs.declared.days.EntryDays.{EntryDays}
 
@@ -99,7 +100,7 @@ module _ (entry : ℕ) (before mid after : EntryDays) (old now new : State) (wen
   }
 
   module _ (row : EntryRow) (reads : ReadsEntry mid after now new (Ok (Some row))) (number : row.number ≡ entry) where
-    pub looks_found : (day : ℤ) → day_in row.body ≡ Some day → after.last ≡ Some (known_day entry day) → LooksUp entry before after old new (Ok day)
+    pub looks_found : (day : ℤ) → day_in row.body ≡ Some day → after.last ≡ Some (known_day entry day row.body) → LooksUp entry before after old new (Ok day)
     looks_found day text last = record {
       found = λ clean tables has passed behind.
           let was = early now new reads.crash clean in
@@ -110,9 +111,9 @@ module _ (entry : ℕ) (before mid after : EntryDays) (old now new : State) (wen
             more = m.0 ++ row ∷ [];
             behind = record {
               read = subst (λ (l : List EntryRow). IsBehind entry_cells l tables.entry after.cursor) whole next;
-              last = subst (IsLast (passed ++ (m.0 ++ row ∷ []))) (sym last) (passed ++ m.0, row, sym whole, number, text);
+              last = subst (IsLast (passed ++ (m.0 ++ row ∷ []))) (sym last) (passed ++ m.0, row, sym whole, number, text, refl);
             };
-            last = last;
+            last = (row.body, last);
           };
       same = λ clean. stays_then old now new (went.same (early now new reads.crash clean)) (reads.same clean);
       damaged = λ clean is. cc;
@@ -142,7 +143,7 @@ module _ (entry : ℕ) (before mid after : EntryDays) (old now new : State) (wen
       crash = survives_both old now new went.survives reads.crash;
     }
 
-    pub looks_stopped : (result : Result ℤ Fault) → IfOk result (λ day. day_in row.body ≡ Some day) → IfOk result (λ day. after.last ≡ Some (known_day entry day))
+    pub looks_stopped : (result : Result ℤ Fault) → IfOk result (λ day. day_in row.body ≡ Some day) → IfOk result (λ day. after.last ≡ Some (known_day entry day row.body))
         → IfErr result (λ fault. (fault ≡ Damaged) × ((command : Command) → IsSayable command → row.body ≢ canonical command))
         → LooksUp entry before after old new result
     looks_stopped (Ok day) text last bad = looks_found day text last
@@ -171,10 +172,10 @@ other_is_known (Some day) entry known is other at =
     let same : day ≡ known = cc in
     other (sym (ap (λ (d : EntryDay). d.entry) same) ∙ at)
 
-pub is_known : (last : Option EntryDay) (entry : ℕ) (known : EntryDay) → last ≡ Some known → known.entry ≡ entry → last ≡ Some (known_day entry known.day)
-is_known last entry known is same = is ∙ (λ i. Some (known_day (same i) known.day))
+pub is_known : (last : Option EntryDay) (entry : ℕ) (known : EntryDay) → last ≡ Some known → known.entry ≡ entry → IsKnown last entry known.day
+is_known last entry known is same = (known.text, is ∙ (λ i. Some (known_day (same i) known.day known.text)))
 
-pub finds_known : (entry : ℕ) (day : ℤ) (days : EntryDays) (s : State) → days.last ≡ Some (known_day entry day) → FindsDay entry days days s s (Ok day)
+pub finds_known : (entry : ℕ) (day : ℤ) (days : EntryDays) (s : State) → IsKnown days.last entry day → FindsDay entry days days s s (Ok day)
 finds_known entry day days s last = record {
   found = λ clean tables has passed behind. record {
     more = [];
@@ -211,16 +212,40 @@ module _ (entry : ℕ) (before after : EntryDays) (old new : State) (other : ¬ 
     crash = looks.crash;
   }
 
--- the row of the entry that was looked up last is in the table
-pub last_day : (days : EntryDays) (rows passed : List EntryRow) (entry : ℕ) (day : ℤ) → AreBehind days rows passed → days.last ≡ Some (known_day entry day)
+-- ---- the row of the entry that was looked up last
+
+-- it is in the table
+passed_has : (days : EntryDays) (rows passed : List EntryRow) → AreBehind days rows passed → (row : EntryRow) → HasRow passed row → HasRow rows row
+passed_has days rows passed behind row has =
+    let more = behind_rows entry_cells same_row passed rows days.cursor behind.read in
+    subst (λ (l : List EntryRow). HasRow l row) more.1 (has_left passed more.0 row has)
+
+last_has : (passed before : List EntryRow) (row : EntryRow) → passed ≡ before ++ row ∷ [] → HasRow passed row
+last_has passed before row is = subst (λ (l : List EntryRow). HasRow l row) (sym is) (has_right before (row ∷ []) row (inl refl))
+
+pub last_day : (days : EntryDays) (rows passed : List EntryRow) (entry : ℕ) (day : ℤ) → AreBehind days rows passed → IsKnown days.last entry day
     → HasDay rows entry day
 last_day days rows passed entry day behind is =
-    let last = subst (IsLast passed) is behind.last in
-    let more = behind_rows entry_cells same_row passed rows days.cursor behind.read in
-    let among : HasRow passed last.1 = subst (λ (l : List EntryRow). HasRow l last.1) (sym last.2) (has_right last.0 (last.1 ∷ []) last.1 (inl refl)) in
+    let last = subst (IsLast passed) is.1 behind.last in
     record {
       row = last.1;
-      among = subst (λ (l : List EntryRow). HasRow l last.1) more.1 (has_left passed more.0 last.1 among);
+      among = passed_has days rows passed behind last.1 (last_has passed last.0 last.1 last.2);
       number = last.3;
       text = last.4;
     }
+
+-- its text is the one that is kept
+text_of : (last : Option EntryDay) (rows passed : List EntryRow) (entry : ℕ) → IsLast passed last → IsAt last entry
+    → ((row : EntryRow) → HasRow passed row → HasRow rows row) → MatchOption (last_text last) ⊥ (HasText rows entry)
+text_of None rows passed entry is at within = at
+text_of (Some last) rows passed entry is at within = record {
+  row = is.1;
+  among = within is.1 (last_has passed is.0 is.1 is.2);
+  number = is.3 ∙ at;
+  body = is.5;
+}
+
+pub text_is : (days : EntryDays) (rows passed : List EntryRow) (entry : ℕ) → AreBehind days rows passed → IsAt days.last entry
+    → MatchOption (last_text days.last) ⊥ (HasText rows entry)
+text_is days rows passed entry behind at =
+    text_of days.last rows passed entry behind.last at (passed_has days rows passed behind)

@@ -1,5 +1,6 @@
 -- Steps of a walk over legs, from one place to the next.
 use Rattle.std.proofs.Common.{◌≡◌, ◌∙◌, ◌⊎◌, inl, inr, ◌≤◌, ◌<◌, ℕ, ℤ, List, [], ◌∷◌, ◌++◌, map, Option, None, Some, Result, Ok, Err, refl, sym, ap, subst, arith}
+use Rattle.std.specs.Prelude.{MatchOption}
 use Rattle.std.specs.List.{AllByRecursion}
 use Rattle.std.proofs.lemmas.Bool.{cases_order}
 use Rattle.std.proofs.lemmas.List.{append-nil, append_assoc, map-append}
@@ -30,15 +31,43 @@ use Rattle.lot_walk.proofs.CursorLemmas.{next_left, none_left, suffix_up}
 use Rattle.lot_walk.proofs.PlaceLemmas.{failed_after, has_still, stays_then}
 use Rattle.lot_walk.proofs.StepLemmas.{left_then, undone_left}
 use Rattle.lot_walk.specs.Step.{IsPrefix, StaysOrGoesBack, Steps, StepsOverRows}
-use Rattle.lot_legs.specs.Days.{FindsDay, Found, HasDay, IsAt, IsLast, IsLeft, day_in, known_day}
+use Rattle.lot_legs.specs.Days.{FindsDay, Found, HasDay, HasText, IsAt, IsLast, IsLeft, day_in, known_day, last_text}
 use Rattle.lot_legs.specs.Legs.{AreAllLegRows, AreDatedLegs, dated_legs, dated_row, leg_in, row_in}
-use Rattle.lot_legs.specs.Place.{IsAnyLeg, IsBehindLegRows, IsBehindLegs, IsFrom, shown_leg}
+use Rattle.lot_legs.specs.Place.{IsAnyLeg, IsBehindLegRows, IsBehindLegs, IsFrom, IsLastText, IsOfLast, shown_leg}
 use Rattle.lot_legs.specs.declared.days.EntryDay.{EntryDay}
 use Rattle.lot_legs.specs.declared.leg.DatedLeg.{DatedLeg}
 use Rattle.lot_legs.specs.declared.place.LegsPlace.{LegsPlace}
 use Rattle.lot_legs.proofs.BookLemmas.{HasItsDay, IsRowBelow, book_numbers, canonical_rows, left_behind, leg_rows, legs_have_days, one_entry_row, upto_by_entry}
-use Rattle.lot_legs.proofs.LookLemmas.{last_day}
+use Rattle.lot_legs.proofs.LookLemmas.{last_day, text_is}
 use Rattle.lot_legs.proofs.RowLemmas.{one_leg_row}
+
+-- ---- the last leg
+
+none_pushed : {X : Type 0} (xs : List X) (x : X) → [] ≡ xs ++ x ∷ [] → ⊥
+none_pushed [] x e = absurd cc
+none_pushed (y ∷ xs) x e = absurd cc
+
+last_one : {X : Type 0} (xs ys : List X) (x y : X) → xs ++ x ∷ [] ≡ ys ++ y ∷ [] → x ≡ y
+last_one [] [] x y e = cc
+last_one [] (b ∷ ys) x y e = let more : [] ≡ ys ++ y ∷ [] = cc in absurd (none_pushed ys y more)
+last_one (a ∷ xs) [] x y e = let more : xs ++ x ∷ [] ≡ [] = cc in absurd (none_pushed xs x (sym more))
+last_one (a ∷ xs) (b ∷ ys) x y e = let more : xs ++ x ∷ [] ≡ ys ++ y ∷ [] = cc in last_one xs ys x y more
+
+of_none : (last : Option EntryDay) → IsOfLast last []
+of_none last = λ front leg e. absurd (none_pushed front leg e)
+
+of_pushed : (last : Option EntryDay) (given : List DatedLeg) (leg : DatedLeg) → IsAt last leg.entry → IsOfLast last (given ++ leg ∷ [])
+of_pushed last given leg at = λ front other e.
+    subst (IsAt last) (ap (λ (l : DatedLeg). l.entry) (last_one given front leg other e)) at
+
+known_at : (last : Option EntryDay) (entry : ℕ) (day : ℤ) (text : List ℕ) → last ≡ Some (known_day entry day text) → IsAt last entry
+known_at last entry day text is = subst (λ (o : Option EntryDay). IsAt o entry) (sym is) refl
+
+-- its entry has the text that is kept
+pub is_last_text : (place : LegsPlace) (text : Option (List ℕ)) → text ≡ last_text place.days.last → IsLastText place text
+is_last_text place text is = λ tables asked given leg b.
+    subst (λ (o : Option (List ℕ)). MatchOption o ⊥ (HasText tables.entry leg.entry)) (sym is)
+    (text_is place.days tables.entry b.passed leg.entry b.read (b.last given leg refl))
 
 -- ---- before the first leg
 
@@ -53,6 +82,7 @@ no_leg_rows place tables none legs entries = record {
   passed = [];
   read = record { read = entries; last = subst (IsLast []) (sym none) refl };
   days = tt;
+  last = of_none place.days.last;
 }
 
 pub no_legs : (place : LegsPlace) (tables : Tables) (entries : List Entry) → place.days.last ≡ None → IsBehindLegRows place tables tt []
@@ -105,6 +135,7 @@ module _ (before after : LegsPlace) (old now new : State) (row : LegRow) (reads 
         read = f.behind;
         days = all-append (HasItsDay tables.entry) given (given_leg ∷ []) b.days
             (last_day after.days tables.entry (b.passed ++ f.more) row.entry day f.behind f.last, tt);
+        last = of_pushed after.days.last given given_leg (known_at after.days.last row.entry day f.last.0 f.last.1);
       }
 
   pub leg_row_given : GivesRows before after old new (Ok (Some given_leg))
@@ -275,14 +306,14 @@ module _ (before after : LegsPlace) (old now new : State) (row : LegRow) (reads 
         let same : leg ≡ n.leg = is_next tables entries stand before asked given b row n day its in
         let all : (given ++ leg ∷ []) ++ n.more ≡ dated_legs entries =
         append_assoc given (leg ∷ []) n.more ∙ ap (λ l. given ++ l ∷ n.more) same ∙ all_left tables entries stand before asked given b row n in
-        let from : AllByRecursion (IsFrom (Some (known_day row.entry day))) n.more =
+        let from : AllByRecursion (IsFrom (Some (known_day row.entry day f.last.0))) n.more =
         subst (λ (e : ℕ). AllByRecursion (λ (leg : DatedLeg). e ≤ leg.entry) n.more) (sym (its_entry tables entries stand before asked given b row n))
         (more_from tables entries stand before asked given b row n) in (
           record {
             rows = behind;
             left = n.more;
             all = all;
-            from = subst (λ (o : Option EntryDay). AllByRecursion (IsFrom o) n.more) (sym f.last) from;
+            from = subst (λ (o : Option EntryDay). AllByRecursion (IsFrom o) n.more) (sym f.last.1) from;
           },
           (n.more, all),
         );

@@ -1,5 +1,5 @@
--- The days of entries, as the rows of the table `entry` say them.
-use Rattle.std.specs.Prelude.{◌≡◌, ◌≢◌, ◌⊎◌, ℕ, ℤ, List, [], ◌∷◌, ◌++◌, take, All, Option, None, Some, Result, Err, IfOk, OnErr, OnOk}
+-- The days and the texts of entries, as the rows of the table `entry` say them.
+use Rattle.std.specs.Prelude.{◌≡◌, ◌≢◌, ◌⊎◌, ℕ, ℤ, List, [], ◌∷◌, ◌++◌, take, All, Option, None, Some, option_map, Result, Err, IfOk, OnErr, OnOk}
 use Rattle.std.specs.List.{AllByRecursion}
 use Rattle.sqlite.specs.State.{HasCleanDisk, State, Survives}
 use Rattle.sqlite_rules.specs.Lists.{Has as HasRow}
@@ -29,10 +29,25 @@ pub record HasDay (rows : List EntryRow) (entry : ℕ) (day : ℤ) : Type 0 wher
   pub number : row.number ≡ entry
   pub text : day_in row.body ≡ Some day
 
+-- among the rows is that of the entry, and it has this text
+pub record HasText (rows : List EntryRow) (entry : ℕ) (text : List ℕ) : Type 0 where
+  pub row : EntryRow
+  pub among : HasRow rows row
+  pub number : row.number ≡ entry
+  pub body : row.body ≡ text
+
 -- ---- the entry that was looked up last
 
-abbrev pub known_day : ℕ → ℤ → EntryDay
-known_day entry day = record { entry = entry; day = day }
+abbrev pub known_day : ℕ → ℤ → List ℕ → EntryDay
+known_day entry day text = record { entry = entry; day = day; text = text }
+
+-- it is that entry, on that day
+abbrev pub IsKnown : Option EntryDay → ℕ → ℤ → Type 0
+IsKnown last entry day = (text : List ℕ) × (last ≡ Some (known_day entry day text))
+
+-- its text
+abbrev pub last_text : Option EntryDay → Option (List ℕ)
+last_text last = option_map (λ (day : EntryDay). day.text) last
 
 -- it is that entry
 abbrev pub IsAt : Option EntryDay → ℕ → Type 0
@@ -44,6 +59,7 @@ abbrev pub IsLast : List EntryRow → Option EntryDay → Type 0
 IsLast passed None = passed ≡ []
 IsLast passed (Some last) =
     (before : List EntryRow) × (row : EntryRow) × (passed ≡ before ++ row ∷ []) × (row.number ≡ last.entry) × (day_in row.body ≡ Some last.day)
+    × (row.body ≡ last.text)
 
 -- the days are behind these rows
 pub record AreBehind (days : EntryDays) (rows passed : List EntryRow) : Type 0 where
@@ -68,7 +84,7 @@ pub record Passes (entry : ℕ) (before after : EntryDays) (old new : State) : T
 pub record Found (entry : ℕ) (day : ℤ) (after : EntryDays) (rows passed : List EntryRow) : Type 0 where
   pub more : List EntryRow
   pub behind : AreBehind after rows (passed ++ more)
-  pub last : after.last ≡ Some (known_day entry day)
+  pub last : IsKnown after.last entry day
 
 -- the row of the entry is among those that are left, each of which has the canonical text of a command
 pub record IsLeft (entry : ℕ) (left : List EntryRow) : Type 0 where

@@ -1,8 +1,8 @@
-ghost use Rattle.std.specs.Prelude.{◌≡◌, ◌≢◌, [], IfErr, IfOk, List, MatchOption, None, Some};
+ghost use Rattle.std.specs.Prelude.{◌≡◌, ◌≢◌, [], IfErr, IfOk, List, MatchOption, None, Some, option_copied};
 ghost use Rattle.lot_command.specs.Canonical.{canonical};
 ghost use Rattle.lot_command.specs.Sayable.{IsSayable};
 ghost use Rattle.lot_command.specs.declared.command.Command.{Command as CommandOf};
-ghost use Rattle.lot_legs.specs.Days.{FindsDay, IsAt, LooksUp, day_in, known_day};
+ghost use Rattle.lot_legs.specs.Days.{FindsDay, IsAt, IsKnown, LooksUp, day_in, known_day, last_text};
 ghost use Rattle.lot_page.specs.Cursor.{IsBehind};
 ghost use Rattle.lot_rows.specs.Entry.{entry_cells};
 ghost use Rattle.lot_rows.specs.declared.entry.EntryRow.{EntryRow as EntryRowOf};
@@ -12,16 +12,17 @@ use crate::front::day_at_front;
 use lot_base::Day;
 use lot_page::EntryCursor;
 use lot_rows::entry::EntryRow;
-use lot_table::Fault;
+use lot_table::{AnyText, Fault};
 use sqlite::{Alter, Connection};
 use std::alloc::Global;
 
-/// The day of an entry.
+/// The day of an entry, and its text.
 #[derive(Drop)]
 struct EntryDay {
     /// The number of the entry, from 1.
     entry: u32,
     day: Day,
+    text: AnyText,
 }
 
 /// The days of entries, which are looked up in the order of their numbers: the rows of the table `entry` are read once.
@@ -62,10 +63,20 @@ impl EntryDays {
         }
     }
 
+    /// Returns the text of the entry that was looked up last, if there is one.
+    pub(crate) fn text(&self) -> Option<&str>
+        ensures { option_copied result ≡ last_text self.now.last }
+    {
+        match &self.last {
+            Some(last) => Some(last.text.as_str()),
+            None => None,
+        }
+    }
+
     /// Returns the day of the entry, where it was looked up last.
     fn known(&self, entry: u32) -> Option<Day>
         ensures { MatchOption result (¬ IsAt self.now.last entry)
-            (λ day. self.now.last ≡ Some (known_day entry day)) }
+            (IsKnown self.now.last entry) }
     {
         let Some(last) = &self.last else {
             return None;
@@ -88,25 +99,26 @@ impl EntryDays {
             };
             let number = row.number.number();
             if number == entry {
-                return self.stop_at(entry, &row);
+                return self.stop_at(entry, row);
             }
         }
         Err(Fault::Memory)
     }
 
-    /// Notes the day of the entry, whose row this is.
+    /// Notes the day and the text of the entry, whose row this is.
     ///
     /// The error is `Damaged`, where the text of the row begins with no day.
-    fn stop_at(&mut self, entry: u32, row: &EntryRow) -> Result<Day, Fault>
+    fn stop_at(&mut self, entry: u32, row: EntryRow) -> Result<Day, Fault>
         ensures cursor { self.new.cursor ≡ self.old.cursor }
-        ensures day { IfOk result (λ day. day_in row.now.body ≡ Some day) }
-        ensures last { IfOk result (λ day. self.new.last ≡ Some (known_day entry day)) }
+        ensures day { IfOk result (λ day. day_in row.body ≡ Some day) }
+        ensures last { IfOk result (λ day. self.new.last ≡ Some (known_day entry day row.body)) }
         ensures damaged { IfErr result (λ fault. (fault ≡ Fault.Damaged)
-            × ((command : CommandOf) → IsSayable command → row.now.body ≢ canonical command)) }
+            × ((command : CommandOf) → IsSayable command → row.body ≢ canonical command)) }
     {
-        match day_at_front(row.body.as_str()) {
+        let EntryRow { body: text, .. } = row;
+        match day_at_front(text.as_str()) {
             Some(day) => {
-                self.last = Some(EntryDay { entry, day });
+                self.last = Some(EntryDay { entry, day, text });
                 Ok(day)
             }
             None => Err(Fault::Damaged),

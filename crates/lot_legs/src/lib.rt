@@ -2,7 +2,7 @@
 //!
 //! - `leg`: a leg with a day.
 //! - `front`: the day with which the canonical text of a command begins.
-//! - `days`: the days of entries, which are looked up in the order of their numbers.
+//! - `days`: the days and the texts of entries, which are looked up in the order of their numbers.
 //! - `place`: the place of a walk over the legs.
 //! - `laws`: what the legs of a book with their days are.
 #![tactic(auto)]

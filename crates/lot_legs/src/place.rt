@@ -1,5 +1,6 @@
+ghost use Rattle.std.specs.Prelude.{option_copied};
 ghost use Rattle.lot_legs.specs.Legs.{AreAllLegRows, AreDatedLegs};
-ghost use Rattle.lot_legs.specs.Place.{IsAnyLeg, IsBehindLegRows, IsBehindLegs, shown_leg};
+ghost use Rattle.lot_legs.specs.Place.{IsAnyLeg, IsBehindLegRows, IsBehindLegs, IsLastText, shown_leg};
 ghost use Rattle.lot_legs.specs.declared.leg.DatedLeg.{DatedLeg as DatedLegOf};
 ghost use Rattle.lot_walk.specs.Step.{HasGivenNoRows, HasGivenNone};
 
@@ -28,6 +29,14 @@ impl LegsPlace {
         let legs = LegCursor::new(alloc);
         let days = EntryDays::new(alloc);
         LegsPlace { legs, days }
+    }
+
+    /// Returns the text of the entry of the leg that was given last. There is none before the first
+    /// leg, and after an error it may be that of another entry.
+    pub fn text(&self) -> Option<&str>
+        ensures { IsLastText self.now (option_copied result) }
+    {
+        self.days.text()
     }
 }
 

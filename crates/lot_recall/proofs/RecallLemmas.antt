@@ -56,6 +56,9 @@ same_number n = (Decides-eqb n n).1 refl
 pub one_number : (m n : ℕ) → (m == n) ≡ true → m ≡ n
 one_number m n e = (Decides-eqb m n).0 e
 
+pub number_is : (m n : ℕ) → m ≡ n → (m == n) ≡ true
+number_is m n e = (Decides-eqb m n).1 e
+
 -- ---- no two legs are at one place
 
 places_total : IsTotalOrder place_cmp

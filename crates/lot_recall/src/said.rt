@@ -94,7 +94,7 @@ impl LastNote {
 }
 
 /// Returns a copy of a narration. The only error is out of memory.
-fn copy_of(narration: &Option<Note>) -> Result<Option<Note>, AllocError>
+pub(crate) fn copy_of(narration: &Option<Note>) -> Result<Option<Note>, AllocError>
     ensures { IfOk result (λ copy. copy ≡ narration.now) }
 {
     match narration {

@@ -1,20 +1,20 @@
 //! A call of the program answered: its action is served, and standard error says what there is to say of it.
 
-ghost use Rattle.std.specs.Prelude.{◌≡◌, if◌then◌else◌, None, false};
+ghost use Rattle.std.specs.Prelude.{◌≡◌, None, false};
 ghost use Rattle.std.specs.Io.Buffered.{writer_contents};
 ghost use Rattle.sqlite.specs.Held.{state};
 ghost use Rattle.lot_io.specs.Reads.{reads_between};
 ghost use Rattle.lot_io.specs.Writes.{writes_between};
 ghost use Rattle.lot_args.specs.Preview.{preview_of};
 ghost use Rattle.lot_call.specs.Looks.{IsLookedAt};
-ghost use Rattle.lot_host.specs.Answers.{stopped};
 ghost use Rattle.lotbook.specs.Answered.{AnswersOnSome, IsAnswered, IsServed};
 
 use crate::keeper::{Keep, Keeper};
 use lot_book::Verdict;
 use lot_call::{
-    Appraiser, Call, Crumbs, Fate, FileKind, Watched, explain, say_aside, say_export_fault,
-    say_fate, say_statement_fault, say_taken, say_unwritten, sum_up,
+    Appraiser, Call, Crumbs, Fate, FileKind, Forewarner, Watched, explain, say_aside,
+    say_export_fault, say_fate, say_statement_fault, say_taken, say_unwritten, status_behind,
+    sum_up,
 };
 use lot_cli::{
     Action, AdoptFault, Aside, CommandFault, CountedWriter, CreateFault, DumpFault, Export,
@@ -26,7 +26,6 @@ use lot_completion::{Note, Watch};
 use lot_io::{CountedRead, CountedWrite};
 use lot_output::{Ended, Heard, Meter, Output, Pace, Record, Witness};
 use lot_rounding::Asked;
-use lot_stream::STOPPED;
 use lot_table::Queryable;
 use lot_verify::say_where;
 use sqlite::{Alter, Connection};
@@ -80,7 +79,8 @@ fn answer<R: Read + Drop, W: Write + Drop, S: Alter>(
         Keep::TakenBack
     };
     let mut reader = Keeper::new(alloc, input, keep);
-    let appraiser = Appraiser::new(call, output);
+    let forewarner = Forewarner::new(call, output);
+    let appraiser = Appraiser::new(call, forewarner);
     let mut writer = CountedWriter::new(Witness::new(alloc, appraiser, call.most()));
     let mut watched = Watched::of(call);
     let Served {
@@ -90,7 +90,7 @@ fn answer<R: Read + Drop, W: Write + Drop, S: Alter>(
     } = do_quietly(call, &mut reader, &mut writer, &mut watched, conn);
     reader.free_room();
     let (appraiser, heard) = writer.into_writer().into_parts();
-    let output = appraiser.say_unpriced(call, &heard);
+    let output = appraiser.say_unpriced(call, &heard).into_writer();
     let Ended { writer, is_whole } = output.end();
     speak(call, &reader.kept, &heard, &mut watched, halt, &mut conn);
     Answered {
@@ -98,13 +98,6 @@ fn answer<R: Read + Drop, W: Write + Drop, S: Alter>(
         conn,
         writer,
     }
-}
-
-/// Returns the status of a call that ended with this one, by whether all that it wrote was handed to the writer.
-pub fn status_behind(status: u8, is_whole: bool) -> u8
-    ensures { result ≡ (if is_whole then status else stopped) }
-{
-    if is_whole { status } else { STOPPED }
 }
 
 /// Returns standard output, for what a call is for: the replies of a run are written out at once, and a meter counts them.

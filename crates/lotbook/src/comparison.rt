@@ -10,9 +10,9 @@ ghost use Rattle.lotbook.specs.Compared.{IsTakenUp, IsToldBeside, Reports, Shows
 ghost use Rattle.lotbook.specs.Compared.{unlimited};
 ghost use Rattle.lotbook.specs.Statuses.{IsStatusBeside};
 
-use crate::answer::{advise, status_behind};
+use crate::answer::advise;
 use crate::system::buffered;
-use lot_call::{Call, Fate, say_unwritten};
+use lot_call::{Call, Fate, say_unwritten, status_behind};
 use lot_cli::{AdoptFault, CountedWriter, Halt, Status, say_halt, tell_differences};
 use lot_files::{Database, is_missing};
 use lot_host::old_of;

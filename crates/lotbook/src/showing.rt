@@ -3,10 +3,9 @@
 ghost use Rattle.std.specs.Io.Buffered.{writer_contents};
 ghost use Rattle.lotbook.specs.Shown.{IsExportShown, ShowsTo};
 
-use crate::answer::status_behind;
 use crate::keeper::{Keep, Keeper};
 use crate::system::buffered;
-use lot_call::{say_cut_short, say_export_fault};
+use lot_call::{say_cut_short, say_export_fault, status_behind};
 use lot_cli::{CountedWriter, Halt, InputFault, Notes, show};
 use lot_output::{Ended, Heard, Output, Record, Witness};
 use lot_profile::Profile;

@@ -15,7 +15,8 @@ ghost use Rattle.lot_files.specs.Path.{has_long_name};
 ghost use Rattle.lot_files.specs.Shown.{AllowsBook, ShowsMissing};
 ghost use Rattle.lot_files.specs.System.{system_gives};
 ghost use Rattle.lot_files.specs.declared.opened.Database.{Database as DatabaseOf};
-ghost use Rattle.lot_host.specs.Answers.{IsTold, stopped};
+ghost use Rattle.lot_call.specs.Told.{Tells};
+ghost use Rattle.lot_host.specs.Answers.{stopped};
 ghost use Rattle.lot_host.specs.Stage.{stage_empty, stage_of};
 ghost use Rattle.lot_host.specs.declared.stage.Stage.TheVariants.{Begun, Over, Refused};
 
@@ -137,7 +138,7 @@ impl<'a> Host for System<'a> {
 
     ghost shows = { IsExportShown };
 
-    ghost tells = { IsTold };
+    ghost tells = { Tells };
 
     ghost stage = { λ system. system.stage };
 

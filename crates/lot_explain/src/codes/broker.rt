@@ -9,8 +9,9 @@ pub(super) static CODES: [Code; 7] = [
         brief: "the first record isn't the header of a broker file",
         rule: "The first record of a broker file is exactly \
             ref,date,action,symbol,units,price,currency,fee, with ,lot behind it where the file \
-            has that column. In an export that is imported by a profile, a column that the profile \
-            names stands in the header exactly once; its lines are counted without blank ones.",
+            has that column; that of a statement is commodity,units. In an export that is imported by \
+            a profile, a column that the profile names stands in the header exactly once; its lines \
+            are counted without blank ones.",
         examples: Examples::Rows {
             refused: r#"
 Ref,Date,Action,Symbol,Units,Price,Currency,Fee

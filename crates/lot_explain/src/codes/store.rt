@@ -84,7 +84,7 @@ $ lotbook holdings --book family.book
         rule: "A row was read that no book has: another program changed the file, or the disk \
             did. This command changed nothing.",
         examples: Examples::Absent,
-        help: "Go back to a copy of the file and its log.",
+        help: "lotbook verify says where the damage shows. Go back to a copy of the file and its log.",
         page: "docs/FORMATS.md, Tables",
     },
     Code {

@@ -40,3 +40,12 @@ pub returns-in-Activity-clause-shows : goal.returns-in-Activity-clause-shows
 returns-in-Activity-clause-shows g c =
     rw c.in-Activity.is
     (rw (c.scope_of-scope.ensures, c.form_of-in-Activity.ensures) at (placed g.S.Store _ _ _ c.show_activity.ensures.shows))
+
+pub returns-in-Page-clause-shows : goal.returns-in-Page-clause-shows
+returns-in-Page-clause-shows g c = rw c.in-Page.is (rw c.page_of-scope.ensures at c.show_page.ensures.shows)
+
+pub returns-in-Page-clause-some : goal.returns-in-Page-clause-some
+returns-in-Page-clause-some g c = rw c.in-Page.is (rw c.page_of-scope.ensures at c.show_page.ensures.some)
+
+pub returns-in-Page-clause-rows : goal.returns-in-Page-clause-rows
+returns-in-Page-clause-rows g c = rw c.in-Page.is (rw c.page_of-scope.ensures at c.show_page.ensures.rows)

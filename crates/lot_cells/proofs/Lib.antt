@@ -1,0 +1,5 @@
+pub mod AppendLemmas
+pub mod BalanceLemmas
+mod CellLemmas
+mod EntryLemmas
+mod SaleLemmas

@@ -1,0 +1,14 @@
+use Rattle.std.proofs.Common.{[], ◌∷◌, refl}
+use Rattle.std.specs.Prelude.{codes}
+use Rattle.std.specs.String.{string_bytes}
+use Rattle.lot_html.specs.Number.{data_text}
+use Rattle.lot_cells.proofs.AppendLemmas.{appended, pushed}
+use Rattle.lot_cells.proofs.cell.push_number.Goals as goal
+
+pub returns : goal.returns
+returns c =
+    appended c.push_str-2.result (string_bytes c.args.text.now)
+    (codes "<td class=\"n\">" ∷ data_text c.args.number.now ∷ [])
+    (codes "</td>") (string_bytes c.push_data.new.text) (string_bytes c.push_str-2.new.self)
+    (_, c.in_ok-push_str.ensures.bytes, (_, c.in_ok-push_data.ensures, refl))
+    (pushed c.push_str-2.result (string_bytes c.push_data.new.text) (codes "</td>") (string_bytes c.push_str-2.new.self) c.push_str-2.ensures.bytes)

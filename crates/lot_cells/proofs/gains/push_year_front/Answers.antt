@@ -1,0 +1,13 @@
+use Rattle.std.proofs.Common.{[], ◌∷◌, refl}
+use Rattle.std.specs.Prelude.{codes}
+use Rattle.std.specs.String.{string_bytes}
+use Rattle.lot_html.specs.Text.{escaped}
+use Rattle.lot_cells.proofs.AppendLemmas.{appended, pushed}
+use Rattle.lot_cells.proofs.gains.push_year_front.Goals as goal
+
+pub returns : goal.returns
+returns c =
+    appended c.push_str-2.result (string_bytes c.args.text.now) (codes "<tr><th scope=\"row\">" ∷ escaped c.args.year.now ∷ []) (codes "</th>")
+    (string_bytes c.push_text.new.text) (string_bytes c.push_str-2.new.self)
+    (_, c.in_ok-push_str.ensures.bytes, (_, c.in_ok-push_text.ensures, refl))
+    (pushed c.push_str-2.result (string_bytes c.push_text.new.text) (codes "</th>") (string_bytes c.push_str-2.new.self) c.push_str-2.ensures.bytes)

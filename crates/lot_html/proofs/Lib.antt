@@ -1,0 +1,4 @@
+pub mod BalanceLemmas
+mod CharLemmas
+mod DigitLemmas
+pub mod LawLemmas

@@ -1,0 +1,9 @@
+mod DateLemmas
+mod OrderLemmas
+mod SumLemmas
+mod PairLemmas
+mod FlowLemmas
+mod PriceLemmas
+mod EndLemmas
+mod CostLemmas
+pub mod SeriesLemmas

@@ -1,0 +1,14 @@
+pub mod BalanceLemmas
+pub mod CountLemmas
+pub mod GoesLemmas
+pub mod HeldLemmas
+pub mod JournalLemmas
+pub mod ListLemmas
+pub mod MadeLemmas
+pub mod PageLemmas
+pub mod QuoteLemmas
+pub mod ReadLemmas
+pub mod SalesLemmas
+pub mod ShowLemmas
+pub mod SumsLemmas
+pub mod TakeLemmas

@@ -1,0 +1,12 @@
+pub mod Counted
+pub mod Held
+pub mod List
+pub mod Listed
+pub mod Made
+pub mod Page
+pub mod Parts
+pub mod Read
+pub mod Sections
+pub mod Shown
+pub mod Text
+pub mod Top

@@ -1,0 +1,9 @@
+use Rattle.std.proofs.Common.{◌≡◌, ◌++◌, take}
+use Rattle.std.specs.List.{flat_map}
+use Rattle.std.specs.String.{string_bytes}
+use Rattle.lot_plot.proofs.piece.push_all.Given as goal
+
+-- the first pieces are appended
+abbrev pub invariant-loop-piece : goal.invariant-loop-piece
+invariant-loop-piece l =
+    string_bytes l.text ≡ string_bytes l.initial.text ++ flat_map (λ piece. piece.now) (take l.piece-index l.pieces)
