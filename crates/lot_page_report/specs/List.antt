@@ -8,14 +8,9 @@ use Rattle.lot_page_report.specs.Sections.{pieces_behind}
 abbrev pub list_text : {Row : Type 0} → (List Row → Row → List ℕ) → (List Row → List ℕ) → List Row → List ℕ
 list_text piece end_of rows = pieces_behind piece [] rows ++ end_of rows
 
--- the list of these rows is written; at a fault a prefix of it is
-abbrev pub ListsRows : {Row : Type 0} → (List Row → Row → List ℕ) → (List Row → List ℕ) → List Row → Option (List ℕ) → Option (List ℕ)
-    → Result (Unit {0}) ShowFault → Type 0
-ListsRows piece end_of rows start now (Ok done) = Appends start now (list_text piece end_of rows)
-ListsRows piece end_of rows start now (Err fault) =
-    (part : List ℕ) × (rest : List ℕ) × (list_text piece end_of rows ≡ part ++ rest) × Appends start now part
-
--- that of some rows is
+-- the list of some rows is written; at a fault a prefix of it is
 abbrev pub Lists : {Row : Type 0} → (List Row → Row → List ℕ) → (List Row → List ℕ) → Option (List ℕ) → Option (List ℕ)
     → Result (Unit {0}) ShowFault → Type 0
-Lists {Row} piece end_of start now result = (rows : List Row) × ListsRows piece end_of rows start now result
+Lists {Row} piece end_of start now (Ok done) = (rows : List Row) × Appends start now (list_text piece end_of rows)
+Lists {Row} piece end_of start now (Err fault) =
+    (rows : List Row) × (part : List ℕ) × (rest : List ℕ) × (list_text piece end_of rows ≡ part ++ rest) × Appends start now part
