@@ -27,7 +27,7 @@ use Rattle.lot_page_report.proofs.BalanceLemmas.{page_balanced}
 use Rattle.lot_page_report.specs.Counted.{HasCounted, days_in}
 use Rattle.lot_page_report.specs.List.{Lists}
 use Rattle.lot_page_report.specs.Made.{IsPageOfBook, IsPageOfTables}
-use Rattle.lot_page_report.specs.Page.{IsPageText, ShowsPageOfTables, ShowsText, WritesPage, WritesSomePage, doctype}
+use Rattle.lot_page_report.specs.Page.{IsPageText, ShowsPage, ShowsPageOfTables, ShowsSomePage, ShowsText, doctype}
 use Rattle.lot_page_report.specs.Parts.{ArePartsOf, AreRowsOf, PageOf, Parts, covered_by, days_of, price_day}
 use Rattle.lot_page_report.specs.Sections.{IsTextOf, IsTop, commodities_html, entry_piece, held_html, journal_end, journal_html, no_lots_note, sale_piece, sales_end, sales_html}
 use Rattle.lot_page_report.specs.Shown.{ListsEntries, ListsEntriesOfTables, ListsSales, ListsSalesOfTables}
@@ -74,7 +74,7 @@ nothing = record {
   listed = [];
 }
 
-pub unbegun : (page : PageOf) (start : Option (List ℕ)) (fault : ShowFault) → WritesSomePage page start start (Err fault)
+pub unbegun : (page : PageOf) (start : Option (List ℕ)) (fault : ShowFault) → ShowsSomePage page start start (Err fault)
 unfolding nothing
 unbegun page start fault =
     let years = all_of (part_front (codes "years") (codes "Gains by year") ∷ no_sales ∷ [] ∷ part_end ∷ []) in
@@ -176,7 +176,7 @@ module _ (page : PageOf) (made : PageParts) (top : List ℕ) (has : HasTop page 
   module _ (start : Option (List ℕ)) where
     -- the top is being written
     pub cut_top : (now : Option (List ℕ)) (print : PrintFault) (fault : ShowFault) → WritesLine start now (Err print) (doctype ++ top)
-        → WritesSomePage page start now (Err fault)
+        → ShowsSomePage page start now (Err fault)
     unfolding elements_of
     cut_top now print fault writes =
         let (part, rest, is, wrote) = part_of_line start now (doctype ++ top) print writes in
@@ -189,7 +189,7 @@ module _ (page : PageOf) (made : PageParts) (top : List ℕ) (has : HasTop page 
     module _ (first : Option (List ℕ)) (began : Appends start first (doctype ++ top)) where
       -- the sales are
       pub cut_sales : (now : Option (List ℕ)) (fault : ShowFault) → Lists sale_piece sales_end first now (Err fault)
-          → WritesSomePage page start now (Err fault)
+          → ShowsSomePage page start now (Err fault)
       unfolding elements_of
       cut_sales now fault (sold, part, rest, is, wrote) =
           let behind = all_of (part_front (codes "journal") (codes "Journal") ∷ journal_html (days_of page) [] ∷ []) in (
@@ -213,7 +213,7 @@ module _ (page : PageOf) (made : PageParts) (top : List ℕ) (has : HasTop page 
 
         -- the head of the journal is
         pub cut_front : (now : Option (List ℕ)) (print : PrintFault) (fault : ShowFault)
-            → WritesLine second now (Err print) (part_front (codes "journal") (codes "Journal") ++ []) → WritesSomePage page start now (Err fault)
+            → WritesLine second now (Err print) (part_front (codes "journal") (codes "Journal") ++ []) → ShowsSomePage page start now (Err fault)
         unfolding elements_of journal_front
         cut_front now print fault writes =
             let (part, rest, is, wrote) = part_of_line second now (journal_front ++ []) print writes in (
@@ -239,7 +239,7 @@ module _ (page : PageOf) (made : PageParts) (top : List ℕ) (has : HasTop page 
 
           -- the entries are
           pub cut_entries : (now : Option (List ℕ)) (fault : ShowFault)
-              → Lists (entry_piece (days_of page)) (journal_end (days_of page)) third now (Err fault) → WritesSomePage page start now (Err fault)
+              → Lists (entry_piece (days_of page)) (journal_end (days_of page)) third now (Err fault) → ShowsSomePage page start now (Err fault)
           unfolding elements_of journal_front
           cut_entries now fault (listed, part, rest, is, wrote) = (
             parts_with sold listed,
@@ -264,13 +264,13 @@ module _ (page : PageOf) (made : PageParts) (top : List ℕ) (has : HasTop page 
           )
 
           pub shows_some : (now : Option (List ℕ)) (result : Result (Unit {0}) ShowFault)
-              → Lists (entry_piece (days_of page)) (journal_end (days_of page)) third now result → WritesSomePage page start now result
+              → Lists (entry_piece (days_of page)) (journal_end (days_of page)) third now result → ShowsSomePage page start now result
           shows_some now (Ok done) (listed, wrote) = (parts_with sold listed, whole_page now done listed wrote)
           shows_some now (Err fault) lists = cut_entries now fault lists
 
 -- where a fault ends it, that it is some page is all that is said of the book
 pub cut_of_book : (page : PageOf) (place : ℕ) (entries : List Entry) (start now : Option (List ℕ)) (fault : ShowFault)
-    → WritesSomePage page start now (Err fault) → WritesPage page place entries start now (Err fault)
+    → ShowsSomePage page start now (Err fault) → ShowsPage page place entries start now (Err fault)
 cut_of_book page place entries start now fault (parts, shows) = (parts, tt, shows)
 
 -- no call of the writer was made
@@ -346,7 +346,7 @@ module _ (page : PageOf) (made : PageParts) (top : List ℕ) (has : HasTop page 
       (headed : Appends second third (part_front (codes "journal") (codes "Journal") ++ [])) where
     pub shows_book : (place : ℕ) (entries : List Entry) (result : Result (Unit {0}) ShowFault) → IsPageOfBook page place entries made
         → ListsSales (days_of page) entries first second → OnOk result (ListsEntries (days_of page) entries third now)
-        → WritesSomePage page start now result → WritesPage page place entries start now result
+        → ShowsSomePage page start now result → ShowsPage page place entries start now result
     shows_book place entries (Ok done) book (sold, are, wrote) listed some = (
       parts_with page made top has (entry_rows 1 entries) book.counted sold (entry_rows 1 entries),
       are_parts place entries book sold are,

@@ -1,18 +1,15 @@
 //! The rows of a walk are written one after another, each as it is read.
 
-ghost use Rattle.std.specs.Prelude.{◌≡◌, ◌≢◌, ◌∷◌, ◌++◌, [], Err, IfErr, IfOk, List, OnErr, OnOk, map, ℕ};
+ghost use Rattle.std.specs.Prelude.{◌≡◌, ◌∷◌, ◌++◌, [], IfErr, IfOk, List, OnErr, OnOk, map, ℕ};
 ghost use Rattle.std.specs.Io.KnownBytes.{Appends};
 ghost use Rattle.std.specs.String.{string_bytes};
 ghost use Rattle.lot_book.specs.Facts.{Entry};
 ghost use Rattle.lot_book_report.specs.Csv.{AreGood};
 ghost use Rattle.lot_book_report.specs.Fault.{HasCause};
 ghost use Rattle.lot_book_report.specs.Show.{ReadsBook};
-ghost use Rattle.lot_book_report.specs.declared.fault.ShowFault.TheVariants.{Row as AtRow};
 ghost use Rattle.lot_io.specs.Writes.{HasFailed, NoneFailed, writes_between};
 ghost use Rattle.lot_page_report.specs.List.{Lists, list_text};
 ghost use Rattle.lot_report.specs.Written.{WritesLine};
-ghost use Rattle.lot_report.specs.declared.fault.ReportFault.TheVariants.{Range};
-ghost use Rattle.lot_report.specs.declared.fault.RowFault.TheVariants.{Report};
 ghost use Rattle.lot_rows.specs.Tables.{Tables};
 ghost use Rattle.lot_store.specs.Walk.{HasGiven, HasGivenRows};
 ghost use Rattle.lot_store.specs.declared.walk.Stage.TheVariants.{Going};
@@ -97,7 +94,6 @@ pub(crate) fn write_list<S: Alter, P: Place, L: Listing<P::Row>, W: CountedWrite
         × AreGood P.Place.shown P.Place.IsGood all
         × Appends (W.contents writer.old) (W.contents writer.new)
         (list_text (L.Listing.piece terms) (L.Listing.end_of terms) (map tell all))) }
-    ensures in_range { result ≢ Err (AtRow (Report Range)) }
     ensures reads { ReadsBook S.Store walk.old.book.now walk.new.book.now result }
     ensures cause { HasCause result (writes_between (W.calls writer.old) (W.calls writer.new)) }
 {

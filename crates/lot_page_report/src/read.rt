@@ -1,6 +1,6 @@
 //! What is read of a book before its page is written.
 
-ghost use Rattle.std.specs.Prelude.{◌≡◌, ◌≢◌, ◌||◌, ◌∷◌, ◌++◌, [], IfErr, IfOk, List, Option, false, map, not, true};
+ghost use Rattle.std.specs.Prelude.{◌≡◌, ◌≢◌, ◌||◌, ◌∷◌, ◌++◌, [], IfErr, IfOk, List, Option, map, not, true};
 ghost use Rattle.lot_book.specs.Sale.{SaleParts};
 ghost use Rattle.lot_book_report.specs.Dump.{digest_of};
 ghost use Rattle.lot_book_report.specs.Gains.{sale_in};
@@ -10,7 +10,7 @@ ghost use Rattle.lot_months.specs.Prices.{HasPrices};
 ghost use Rattle.lot_months.specs.declared.range.MonthRange.{MonthRange as MonthRangeOf};
 ghost use Rattle.lot_page_report.specs.Counted.{HasCounted};
 ghost use Rattle.lot_page_report.specs.Parts.{digest_for};
-ghost use Rattle.lot_page_report.specs.Read.{Asked, FlowsOf, HasAllLegs, HasLegs, HasQuotes, HasSales, MoveTooMuch, PricesOf, Reads, all_fit};
+ghost use Rattle.lot_page_report.specs.Read.{Asked, FlowsOf, HasAllLegs, HasLegs, HasQuotes, HasSales, PricesOf, Reads, all_fit};
 ghost use Rattle.lot_quote.specs.Quotes.{AreQuoteRows, AreQuotes};
 ghost use Rattle.lot_report.specs.declared.fault.ReportFault.TheVariants.{Memory};
 ghost use Rattle.lot_rows.specs.declared.entry.EntryRow.{EntryRow as EntryRowOf};
@@ -18,7 +18,6 @@ ghost use Rattle.lot_rows.specs.declared.price.PriceRow.{PriceRow as PriceRowOf}
 ghost use Rattle.lot_store.specs.Extent.{extent_of};
 ghost use Rattle.lot_store.specs.declared.book.Condition.TheVariants.{NeedsReopen};
 ghost use Rattle.lot_stored.specs.Rows.{entry_rows};
-ghost use Rattle.lot_sums.specs.Gather.{HasUnfit};
 ghost use Rattle.lot_walk.specs.Gains.{AreAllSaleRows, AreSalesWithin};
 ghost use Rattle.lot_walk.specs.declared.gains.NumberedSale.{NumberedSale as NumberedSaleOf};
 
@@ -46,7 +45,7 @@ pub(crate) fn read_digest<S: Alter>(
     ensures { book.old.condition ≢ NeedsReopen → Reads S.Store book.old book.new
         (λ place entries digest. digest
         ≡ digest_for heading (digest_of (extent_of place entries) (entry_rows 1 entries)))
-        (λ tables digest. Unit {0}) (λ digest. Unit {0}) (λ entries. ⊥) result }
+        (λ tables digest. Unit {0}) (λ digest. Unit {0}) result }
 {
     match heading {
         Heading::Entries => Ok(None),
@@ -63,8 +62,7 @@ pub(crate) fn read_entries<S: Alter>(
     ensures { Reads S.Store book.old book.new
         (λ place entries counted. HasCounted (first, last) (entry_rows 1 entries) counted)
         (λ tables counted. HasCounted (first, last) tables.entry counted)
-        (λ counted. (rows : List EntryRowOf) × HasCounted (first, last) rows counted)
-        (λ entries. ⊥) result }
+        (λ counted. (rows : List EntryRowOf) × HasCounted (first, last) rows counted) result }
 {
     let mut counted = Counted::new(first, last);
     let mut walk = book.journal();
@@ -121,7 +119,7 @@ impl Tally<NumberedSale> for SalesTally<'_> {
     }
 }
 
-/// Adds the sales of a range up. The fault is `Range` of the report where a sum leaves its range.
+/// Adds the sales of a range up.
 pub(crate) fn read_sales<S: Alter>(
     alloc: Global,
     book: &mut Book<S>,
@@ -133,9 +131,7 @@ pub(crate) fn read_sales<S: Alter>(
         × AreSalesWithin (first, last) entries sales × HasSales tt (map sale_in sales) tally)
         (λ tables tally. (sales : List NumberedSaleOf)
         × AreAllSaleRows (first, last) tables sales × HasSales tt (map sale_in sales) tally)
-        (λ tally. Unit {0})
-        (λ entries. (sales : List NumberedSaleOf) × AreSalesWithin (first, last) entries sales
-        × HasUnfit (all_fit tt) (map sale_in sales)) result }
+        (λ tally. Unit {0}) result }
 {
     let mut tally = SalesTally::new(alloc);
     let mut walk = book.gains(first, last);
@@ -210,9 +206,6 @@ fn add_flow(flows: &mut Option<MonthFlows>, leg: &DatedLeg) -> Result<bool, Repo
     ensures adds { IfOk result (λ fits. fits ≡ true
         → (range : Option MonthRangeOf) (legs : List DatedLegOf) → FlowsOf range legs flows.old
         → FlowsOf range (legs ++ leg.now ∷ []) flows.new) }
-    ensures out { IfOk result (λ fits. fits ≡ false
-        → (range : Option MonthRangeOf) (legs : List DatedLegOf) → FlowsOf range legs flows.old
-        → MoveTooMuch range (legs ++ leg.now ∷ [])) }
     ensures cause { IfErr result (λ fault. fault ≡ Memory) }
 {
     let Some(flows) = flows else {
@@ -236,8 +229,7 @@ pub(crate) fn read_legs<S: Alter>(
         (λ place entries tally. HasAllLegs (day, range) (dated_legs entries) tally)
         (λ tables tally. (legs : List DatedLegOf) × AreAllLegRows tt tables legs
         × HasAllLegs (day, range) legs tally)
-        (λ tally. (legs : List DatedLegOf) × HasAllLegs (day, range) legs tally)
-        (λ entries. MoveTooMuch range (dated_legs entries)) result }
+        (λ tally. (legs : List DatedLegOf) × HasAllLegs (day, range) legs tally) result }
 {
     let mut tally = LegTally::new(alloc, day, range);
     let mut walk = book.legs();
@@ -284,8 +276,7 @@ pub(crate) fn read_quotes<S: Alter>(
         × PricesOf range quotes prices)
         (λ tables prices. (quotes : List PriceRowOf) × AreQuoteRows tt tables quotes
         × PricesOf range quotes prices)
-        (λ prices. (quotes : List PriceRowOf) × PricesOf range quotes prices)
-        (λ entries. ⊥) result }
+        (λ prices. (quotes : List PriceRowOf) × PricesOf range quotes prices) result }
 {
     match range {
         Some(range) => Ok(Some(read_some_quotes(alloc, book, range)?)),
@@ -304,8 +295,7 @@ fn read_some_quotes<S: Alter>(
         × HasPrices range quotes prices)
         (λ tables prices. (quotes : List PriceRowOf) × AreQuoteRows tt tables quotes
         × HasPrices range quotes prices)
-        (λ prices. (quotes : List PriceRowOf) × HasPrices range quotes prices)
-        (λ entries. ⊥) result }
+        (λ prices. (quotes : List PriceRowOf) × HasPrices range quotes prices) result }
 {
     let mut tally = QuoteTally {
         prices: MonthPrices::new(alloc, range),

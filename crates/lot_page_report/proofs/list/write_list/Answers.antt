@@ -11,7 +11,6 @@ use Rattle.lot_store.specs.declared.fault.StoreFault.TheVariants.{Memory}
 use Rattle.lot_store.specs.declared.walk.WalkFault.TheVariants.{Failed}
 use Rattle.lot_sums.proofs.GatherLemmas.{took_more, took_none, whole, whole_rows}
 use Rattle.lot_page_report.proofs.ListLemmas.{HasWritten, cut_at_end, cut_at_row, cut_here, written_more, written_whole}
-use Rattle.lot_page_report.proofs.ReadLemmas.{print_in_range, walk_in_range}
 use Rattle.lot_page_report.proofs.list.write_list.Goals as goal
 
 pub rows-init : goal.rows-init
@@ -40,11 +39,6 @@ returns-in_err-row-clause-some g c =
     rw fault.1 (λ terms fresh.
     let has = loop.took.taken terms (fresh, Appends-nil (g.W.CountedWrite.contents c.args.writer.now)) in
     cut_here g.L.Listing.piece g.L.Listing.end_of g.L.Listing.HasListed (g.W.CountedWrite.contents c.args.writer.now) terms _ (c.rows.list, g.W.CountedWrite.contents c.rows.writer) has.1 fault.0)
-
-pub returns-in_err-row-clause-in_range : goal.returns-in_err-row-clause-in_range
-returns-in_err-row-clause-in_range g c =
-    let fault = err_from_is_err_and c.from_residual.result c.from_residual.ensures.1 in
-    rw (fault.1, fault.2) (walk_in_range c.in_err-row.field-0.0)
 
 pub returns-in_err-row-clause-reads : goal.returns-in_err-row-clause-reads
 returns-in_err-row-clause-reads g c =
@@ -77,11 +71,6 @@ returns-in_err-print_texts-clause-some g c =
     rw fault.1 (λ terms fresh.
     let has = loop.took.taken terms (fresh, Appends-nil (g.W.CountedWrite.contents c.args.writer.now)) in
     cut_at_end g.L.Listing.piece g.L.Listing.end_of g.L.Listing.HasListed (g.W.CountedWrite.contents c.args.writer.now) terms _ (c.rows.list, g.W.CountedWrite.contents c.rows.writer) has.1 _ c.end_text.result.now c.in_err-print_texts.field-0.0 fault.0 (c.end_text.ensures terms _ has.1.0) c.in_err-print_texts.ensures.bytes)
-
-pub returns-in_err-print_texts-clause-in_range : goal.returns-in_err-print_texts-clause-in_range
-returns-in_err-print_texts-clause-in_range g c =
-    let fault = err_from_is_err_and c.from_residual-in_err-print_texts.result c.from_residual-in_err-print_texts.ensures.1 in
-    rw (fault.1, fault.2) (print_in_range c.in_err-print_texts.field-0.0)
 
 pub returns-in_err-print_texts-clause-reads : goal.returns-in_err-print_texts-clause-reads
 returns-in_err-print_texts-clause-reads g c =
@@ -122,9 +111,6 @@ returns-in_default-clause-some g c =
     let has = loop.took.taken terms (fresh, Appends-nil (g.W.CountedWrite.contents c.args.writer.now)) in
     (_, written_whole g.L.Listing.piece g.L.Listing.end_of g.L.Listing.HasListed (g.W.CountedWrite.contents c.args.writer.now) terms _ (c.rows.list, g.W.CountedWrite.contents c.rows.writer) has.1 _ c.end_text.result.now tt (c.end_text.ensures terms _ has.1.0) c.in_ok-print_texts.ensures.bytes)
 
-pub returns-in_default-clause-in_range : goal.returns-in_default-clause-in_range
-returns-in_default-clause-in_range g c = λ is. cc
-
 pub returns-in_default-clause-reads : goal.returns-in_default-clause-reads
 returns-in_default-clause-reads g c =
     let loop = c.rows.invariant in
@@ -154,11 +140,6 @@ returns-in_err-text-clause-some g c =
     rw fault.1 (λ terms fresh.
     let has = loop.took.taken terms (fresh, Appends-nil (g.W.CountedWrite.contents c.args.writer.now)) in
     cut_here g.L.Listing.piece g.L.Listing.end_of g.L.Listing.HasListed (g.W.CountedWrite.contents c.args.writer.now) terms _ (c.rows.list, g.W.CountedWrite.contents c.rows.writer) has.1 fault.0)
-
-pub returns-in_err-text-clause-in_range : goal.returns-in_err-text-clause-in_range
-returns-in_err-text-clause-in_range g c =
-    let fault = err_from_is_err_and c.from_residual-in_err-text.result c.from_residual-in_err-text.ensures.1 in
-    rw (fault.1, fault.2) (walk_in_range (Failed Memory))
 
 pub returns-in_err-text-clause-reads : goal.returns-in_err-text-clause-reads
 returns-in_err-text-clause-reads g c =
@@ -191,11 +172,6 @@ returns-in_err-put_text-clause-some g c =
     let has = loop.took.taken terms (fresh, Appends-nil (g.W.CountedWrite.contents c.args.writer.now)) in
     let listed = c.in_ok-text.ensures terms _ has.1.0 in
     cut_at_row g.L.Listing.piece g.L.Listing.end_of g.L.Listing.HasListed (g.W.CountedWrite.contents c.args.writer.now) terms _ (c.rows.list, g.W.CountedWrite.contents c.rows.writer) has.1 _ _ c.as_str.result.now c.in_err-put_text.field-0.0 fault.0 (c.as_str.ensures.value ∙ listed.1) c.in_err-put_text.ensures.bytes)
-
-pub returns-in_err-put_text-clause-in_range : goal.returns-in_err-put_text-clause-in_range
-returns-in_err-put_text-clause-in_range g c =
-    let fault = err_from_is_err_and c.from_residual-in_err-put_text.result c.from_residual-in_err-put_text.ensures.1 in
-    rw (fault.1, fault.2) (print_in_range c.in_err-put_text.field-0.0)
 
 pub returns-in_err-put_text-clause-reads : goal.returns-in_err-put_text-clause-reads
 returns-in_err-put_text-clause-reads g c =
@@ -242,9 +218,6 @@ returns-clause-some g c =
     λ terms fresh.
     let has = loop.took.taken terms (fresh, Appends-nil (g.W.CountedWrite.contents c.args.writer.now)) in
     cut_here g.L.Listing.piece g.L.Listing.end_of g.L.Listing.HasListed (g.W.CountedWrite.contents c.args.writer.now) terms _ (c.rows.list, g.W.CountedWrite.contents c.rows.writer) has.1 c.from.result
-
-pub returns-clause-in_range : goal.returns-clause-in_range
-returns-clause-in_range g c = rw c.from.ensures (walk_in_range (Failed Memory))
 
 pub returns-clause-reads : goal.returns-clause-reads
 returns-clause-reads g c =
