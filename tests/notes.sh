@@ -775,7 +775,15 @@ run_full holdings --book "$book" --day 2020-01-31 </dev/null
 stops "lots without a price, on a full disk"
 tables rows "$book" "UPDATE lot SET cost_day = 99999999 WHERE commodity = 'LEAD'" >"$scratch/out"
 run holdings --book "$book" --day 2020-01-31 </dev/null
-says "lots without a price, and damage" "lotbook: S7 Damaged: .+"
+damaged="lotbook: S7 Damaged: the file has a row that no book has"
+says "lots without a price, and damage" "$damaged: lotbook verify says where the damage shows"
+tables rows "$book" "UPDATE entry SET body = '2020-1-02' || substr(body, 11) WHERE number = 5" >"$scratch/out"
+run reconcile --book "$book" --account Assets:Broker < <(printf 'commodity,units\n')
+says "a statement, and damage" "$damaged: lotbook verify says where the damage shows"
+run verify --book "$book" </dev/null
+head -n 1 "$scratch/err" >"$scratch/first"
+mv "$scratch/first" "$scratch/err"
+says "damage, by verify" "$damaged"
 
 # Many lots, to a pipe: more than a buffer holds.
 opened
@@ -801,6 +809,24 @@ stated "a commodity" 'row 1: commodity isn'"'"'t a commodity: `usd,1`' 'commodit
 stated "a commodity that comes twice" 'row 2: the commodity stands in a row above: `USD,2`' 'commodity,units\nUSD,1\nUSD,2\n'
 stated "a field more" 'row 1: another number of fields than the header: `USD,1,`' 'commodity,units\nUSD,1,\n'
 stated "a field of two lines" 'row 2: commodity isn'"'"'t a commodity: `"E`' 'commodity,units\n"USD",1\n"E\nR",1\n'
+
+# A number with a comma in a statement: the first row that has one, and how many more. A faulty statement has no warning.
+# commas NAME TOLD STATEMENT
+commas() {
+    printf '%b' "$3" >"$scratch/in"
+    if [[ -n $2 ]]; then echo "lotbook: $2" >"$scratch/told"; else : >"$scratch/told"; fi
+    notes "a statement, $1" 1 reconcile --book "$book" --account Assets:Broker
+}
+skipped="commas are skipped, decimals stand behind a point"
+commas "no comma" "" 'commodity,units\n"CRUX","1.5"\n'
+commas "a comma" "row 1 (CRUX): warning: units 1,5 is read as 15: $skipped: "'CRUX,"1,5"' 'commodity,units\nCRUX,"1,5"\n'
+commas "a comma in groups" "row 2 (CRUX): warning: units -1,500.25 is read as -1500.25: $skipped: "'CRUX,"-1,500.25"' \
+    'commodity,units\nUSD,1\nCRUX,"-1,500.25"\n'
+commas "two commas" "row 2 (EUR): warning: units 0,5 is read as 5: $skipped; 1 more row has a comma there: "'EUR,"0,5"' \
+    'commodity,units\nUSD,1\nEUR,"0,5"\nCRUX,"1,5"\n'
+commas "three commas" "row 1 (EUR): warning: units 0,5 is read as 5: $skipped; 2 more rows have a comma there: "'EUR,"0,5"' \
+    'commodity,units\nEUR,"0,5"\nUSD,"2,5"\nCRUX,"1,5"\n'
+stated "a comma, and a fault" 'row 2: units isn'"'"'t a number of units: `EUR,1x`' 'commodity,units\nUSD,"1,5"\nEUR,1x\n'
 
 # An account that the book doesn't have is warned of; one that it has isn't, and with `--quiet` none is.
 # of_account ACCOUNT WORDS..: a report of it.

@@ -126,11 +126,33 @@ unusable "UTF-8" post --book f --batch $'\xff'
 unusable "fault U2 BadValue --as-of" holdings --book f --as-of 2020-02-30
 unusable "fault U2 BadValue --as-of" holdings --book f --day x --as-of x
 unusable "--as-of" gains --book f --as-of 2020-01-01
+
+# An option that the subcommand has under another name: it is told behind what `clap` says, and no other one is.
+for word in page gains "register --account Assets:" activity; do
+    read -ra words <<<"$word"
+    unusable "  tip: '--last' stands here in place of '--as-of'" "${words[@]}" --book f --as-of 2020-01-01
+    unusable "  tip: '--last' stands here in place of '--as-of'" --quiet "${words[@]}" --book f --as-of=2020-01-01
+done
+for word in holdings "reconcile --account Assets:"; do
+    read -ra words <<<"$word"
+    unusable "  tip: '--as-of' stands here in place of '--last'" "${words[@]}" --book f --last 2020-01-01
+done
+unusable "  tip: '--gains' stands here in place of '--sales'" post --book f --batch a --dry-run --sales
+for words in "page --book f --as" "journal --book f --as-of 2020-01-01" "post --book f --batch a --profile sales" "import --book f --last 2020-01-01"; do
+    read -ra words <<<"$words"
+    unusable "unexpected argument" "${words[@]}"
+    grep -q "stands here in place" "$scratch/err" && fail "no tip: ${words[*]}" "$(tail -n 1 "$scratch/err")" || pass "no tip: ${words[*]}"
+done
+
 unusable "fault U2 BadValue --day" holdings --book f --day 2020-02-30
 unusable "\"2020-02-30\" isn't a day" holdings --book f --day 2020-02-30
 unusable "fault U2 BadValue --first" gains --book f --last x --first ''
 unusable "fault U2 BadValue --last" gains --book f --last x --first 2020-01-01
-for keys in years year, ,year 'year, term' '' Year 'year term' year,,term; do unusable "fault U2 BadValue --by" gains --book f --by "$keys"; done
+for keys in years year, ,year 'year, term' '' Year 'year term' year,,term year,year term,year,term account,commodity,year,term,account; do
+    unusable "fault U2 BadValue --by" gains --book f --by "$keys"
+done
+unusable '"year,year" isn'"'"'t year, commodity, account or term, or several joined by commas, each once, as in --by year,account' \
+    gains --book f --by year,year
 unusable "fault U2 BadValue --first" gains --book f --by x --first x
 unusable "fault U2 BadValue --by" gains --book f --format x --by x
 unusable "--by" holdings --book f --by year

@@ -22,7 +22,7 @@ use Rattle.lot_report.specs.Report.{EachFits}
 use Rattle.lot_report.specs.declared.fault.ReportFault.{ReportFault}
 use Rattle.lot_report.specs.declared.fault.ReportFault.TheVariants.{Range, Write, Memory}
 use Rattle.lot_report.proofs.FedLemmas.{fit_more}
-use Rattle.lot_tally.specs.Rows.{Adds}
+use Rattle.lot_tally.specs.Rows.{Adds, AddsFitting}
 use Rattle.lot_tally.proofs.InsertLemmas.{insert_seen, lookup_seen, lookup_with, sorted_with}
 use Rattle.lot_tally.proofs.SumLemmas.{filter_push}
 use Rattle.lot_activity.specs.Rows.{AreRows, RowKey, counted_legs, flow_of, has_room, is_counted, is_in_row, leg_fits, legs_in_row, row_cmp, row_of, with_units}
@@ -149,10 +149,11 @@ module _ (length : PeriodLength) where
       → seen key ≡ row_of length leg → units ≡ leg.units → HasRows length legs rows → kept ≡ flow_of (legs_in_row length (row_of length leg) legs)
       → IsTrue (has_room kept units) × (flow ≡ with_units kept units)
       → OnOk result (new.entries ≡ insert_entry kept_cmp rows.entries key flow) → IfErr result (λ fault. fault ≡ Memory)
-      → Adds (leg_fits length legs leg) (HasRows length (legs ++ leg ∷ []) new) result
+      → AddsFitting (leg_fits length legs leg) (HasRows length (legs ++ leg ∷ []) new) result
   leg_added legs leg rows new key units kept flow (Ok done) own of_leg has is more set cause =
       leg_set legs leg rows new key kept flow own has is (subst (λ u. IsTrue (has_room kept u) × (flow ≡ with_units kept u)) of_leg more) set
-  leg_added legs leg rows new key units kept flow (Err fault) own of_leg has is more set cause = rw (cause) tt
+  leg_added legs leg rows new key units kept flow (Err fault) own of_leg has is more set cause =
+      rw (cause) (subst IsTrue (λ i. has_room (is i) (of_leg i)) more.0)
 
   -- a leg that doesn't fit
   pub leg_unfit : (legs : List DatedLeg) (leg : DatedLeg) (units : ℤ) (kept : Flow)

@@ -5,7 +5,7 @@ ghost use Rattle.lot_io.specs.Writes.{HasFailed, NoneFailed};
 ghost use Rattle.lot_legs.specs.declared.leg.DatedLeg.{DatedLeg as DatedLegOf};
 ghost use Rattle.lot_period.specs.declared.period.PeriodLength.{PeriodLength as PeriodLengthOf};
 ghost use Rattle.lot_report.specs.Written.{WritesEach};
-ghost use Rattle.lot_tally.specs.Rows.{Adds};
+ghost use Rattle.lot_tally.specs.Rows.{Adds, AddsFitting};
 ghost use Rattle.lot_activity.specs.Rows.{leg_fits, row_of};
 ghost use Rattle.lot_activity.specs.Table.{HasRows, header, kept_cmp, row_text, seen, shown, table_lines, text_lines};
 ghost use Rattle.lot_tally.specs.declared.key.TableForm.TheVariants.{Csv};
@@ -56,11 +56,13 @@ fn row_of(alloc: Global, length: PeriodLength, leg: &DatedLeg) -> Result<RowKey,
     Ok((period, Pair { account, commodity }))
 }
 
-/// Adds the units of a leg to its row.
+/// Adds the units of a leg to its row. The error is `Range` where a sum of the row leaves its range,
+/// else `Memory`.
 fn add_units(rows: &mut Rows, key: RowKey, units: Units) -> Result<(), ReportFault>
     ensures { (length : PeriodLengthOf) (legs : List DatedLegOf) (leg : DatedLegOf)
         → seen key ≡ row_of length leg → units ≡ leg.units → HasRows length legs rows.old
-        → Adds (leg_fits length legs leg) (HasRows length (legs ++ leg ∷ []) rows.new) result }
+        → AddsFitting (leg_fits length legs leg)
+        (HasRows length (legs ++ leg ∷ []) rows.new) result }
 {
     let flow = rows.get(&key).copied().unwrap_or(Flow::none());
     match flow.with(units) {

@@ -2,5 +2,6 @@ mod AccountLemmas
 mod HelpLemmas
 mod ProgramLemmas
 mod RequiredLemmas
+mod TipLemmas
 mod ValueLemmas
 mod WordsLemmas

@@ -1,10 +1,10 @@
 -- What the values of options say, and which of them is outside its rule.
-use Rattle.std.proofs.Common.{◌≡◌, ℕ, zero, suc, ◌<◌, ◌≤◌, Bool, true, false, List, [], ◌∷◌, ◌++◌, ◌∙◌, ap, sym, length, get_or, drop, Option, Some, None, Err, Ok, ℤ, pos, refl, arith, codes}
-use Rattle.std.specs.Prelude.{◌&&◌, ◌||◌, not, IsTrue, Result, SomeIff, map, nat_le, option_and_then, unwrap_or}
+use Rattle.std.proofs.Common.{◌≡◌, ℕ, zero, suc, ◌<◌, ◌≤◌, Bool, true, false, List, [], ◌∷◌, ◌++◌, ◌∙◌, ap, sym, length, get_or, drop, option_map, Option, Some, None, Err, Ok, ℤ, pos, refl, arith, codes}
+use Rattle.std.specs.Prelude.{◌&&◌, ◌||◌, not, is_some, IsTrue, Result, SomeIff, map, nat_le, nat_lt, option_and_then, unwrap_or}
 use Rattle.std.specs.Borrow.{Bor}
-use Rattle.std.specs.List.{list_all}
+use Rattle.std.specs.List.{list_all, slice_get}
 use Rattle.std.specs.Result.{result_ok}
-use Rattle.std.proofs.lemmas.Bool.{le-leb, leb-true, true≢false}
+use Rattle.std.proofs.lemmas.Bool.{le-leb, le-ltb, leb-true, true≢false}
 use Rattle.std.proofs.lemmas.Int.{ints}
 use Rattle.clap.specs.Words.{Row}
 use Rattle.clap.proofs.WalkLemmas.{both}
@@ -63,6 +63,21 @@ bound_from o total (Err fault) e h = cc
 pub bound_named : (o : Option ℤ) (text : List ℕ) (total : ℤ) → result_ok (total_of text) ≡ Some total → SomeIff o (IsBound total) total
     → o ≡ named_bound text
 bound_named o text total e h = bound_from o total (with_no_sign (read_below units_limit text)) e h ∙ sym (ap (option_and_then as_bound) e)
+
+-- ---- a second one
+
+-- a list has no second element where it has fewer than two
+pub no_second : {A B : Type 0} (v : A → B) (o : Option A) (xs : List B) (none : Bool) → option_map v o ≡ slice_get xs 1
+    → is_some o ≡ not none → none ≡ nat_lt (length xs) 2
+no_second v None [] true e is = refl
+no_second v None [] false e is = cc
+no_second v (Some x) [] none e is = cc
+no_second v None (y ∷ []) true e is = refl
+no_second v None (y ∷ []) false e is = cc
+no_second v (Some x) (y ∷ []) none e is = cc
+no_second v None (y ∷ z ∷ ys) none e is = cc
+no_second v (Some x) (y ∷ z ∷ ys) false e is = sym (le-ltb (length (y ∷ z ∷ ys)) 2 (omega arith))
+no_second v (Some x) (y ∷ z ∷ ys) true e is = cc
 
 -- ---- texts
 

@@ -43,6 +43,20 @@ abbrev pub a_kept_preview : List Text
 a_kept_preview =
     codes "lotbook" ∷ codes "post" ∷ codes "--book" ∷ codes "f" ∷ codes "--batch" ∷ codes "a" ∷ codes "--gains" ∷ codes "--holdings" ∷ []
 
+-- lotbook gains --book f --by year,term,year
+abbrev pub a_key_twice : List Text
+a_key_twice = codes "lotbook" ∷ codes "gains" ∷ codes "--book" ∷ codes "f" ∷ codes "--by" ∷ codes "year,term,year" ∷ []
+
+-- lotbook page --book f --as-of=2024-12-31
+abbrev pub a_page_of_a_day : List Text
+a_page_of_a_day = codes "lotbook" ∷ codes "page" ∷ codes "--book" ∷ codes "f" ∷ codes "--as-of=2024-12-31" ∷ []
+
+-- lotbook --quiet post --book f --batch a --dry-run --sales
+abbrev pub a_post_with_sales : List Text
+a_post_with_sales =
+    codes "lotbook" ∷ codes "--quiet" ∷ codes "post" ∷ codes "--book" ∷ codes "f" ∷ codes "--batch" ∷ codes "a" ∷ codes "--dry-run"
+    ∷ codes "--sales" ∷ []
+
 -- lotbook post --book f --batch a --explain-all --all-or-none
 abbrev pub a_whole_post : List Text
 a_whole_post =

@@ -1,5 +1,6 @@
--- What the rows of a table of gains are told apart by, as `--by` names it: a key, or several joined by commas.
-use Rattle.std.specs.Prelude.{if◌then◌else◌, ◌==◌, Bool, is_some, List, [], Option, Some, None, codes, filter_map}
+-- What the rows of a table of gains are told apart by, as `--by` names it: a key, or several joined by commas, none of them twice
+-- (docs/FORMATS.md, Gains by keys).
+use Rattle.std.specs.Prelude.{if◌then◌else◌, ◌==◌, ◌&&◌, Bool, is_some, List, [], length, nat_lt, Option, Some, None, codes, filter, filter_map}
 use Rattle.std.specs.List.{list_all, slice_split}
 use Rattle.std.specs.Option.{option_map_or}
 use Rattle.std.specs.Str.{bytes_eq}
@@ -20,8 +21,22 @@ abbrev pub parts_of : Text → List Text
 parts_of text = slice_split (λ b. b == 44) text
 
 -- whether each of them names a key
+abbrev pub all_name_keys : Text → Bool
+all_name_keys text = list_all (λ part. is_some (key_named part)) (parts_of text)
+
+-- whether no two of them are that name
+abbrev pub is_named_once : Text → Text → Bool
+is_named_once text name = nat_lt (length (filter (λ part. bytes_eq part name) (parts_of text))) 2
+
+-- whether no two of them name one key
+abbrev pub names_none_twice : Text → Bool
+names_none_twice text =
+    is_named_once text (codes "year") && (is_named_once text (codes "commodity")
+    && (is_named_once text (codes "account") && is_named_once text (codes "term")))
+
+-- whether each of them names a key, and none that another one names
 abbrev pub are_keys : Text → Bool
-are_keys text = list_all (λ part. is_some (key_named part)) (parts_of text)
+are_keys text = all_name_keys text && names_none_twice text
 
 -- the keys that they name
 abbrev pub keys_in : Text → List GainKey

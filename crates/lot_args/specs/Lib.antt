@@ -5,6 +5,7 @@ pub mod From
 pub mod Rounding
 pub mod Program
 pub mod Required
+pub mod Tip
 pub mod Table
 pub mod Keys
 pub mod Activity

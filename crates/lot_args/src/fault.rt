@@ -57,7 +57,7 @@ pub enum BadOption {
     First,
     /// `--last`: its value isn't a day.
     Last,
-    /// `--by`: its value isn't a list of keys joined by commas.
+    /// `--by`: its value isn't a list of keys joined by commas, or a key stands there twice.
     By,
     /// `--by` of `activity`: its value is neither `year`, `quarter` nor `month`.
     Period,

@@ -2,6 +2,7 @@
 ghost use Rattle.std.specs.Prelude.{◌≡◌, [], ◌∷◌, None, Some, codes, pos, true};
 ghost use Rattle.clap.specs.Words.{fault_of, matches_of, subcommand_of, takes};
 ghost use Rattle.clap.specs.declared.error.ErrorKind.TheVariants.{MissingRequiredArgument};
+ghost use Rattle.clap.specs.declared.error.ErrorKind.TheVariants.{UnknownArgument};
 ghost use Rattle.lot_args.specs.Example.{a_bad_import, a_dry_run, a_misplaced_rounding, a_post, a_question, a_whole_post};
 ghost use Rattle.lot_args.specs.Example.{a_bad_restore, a_restore, an_import, left_out_of, restore_of};
 ghost use Rattle.lot_args.specs.Example.{a_rounded_check, a_rounded_post, a_row, code_of, crumbs_of};
@@ -9,18 +10,21 @@ ghost use Rattle.lot_args.specs.Example.{a_profile_with_a_start, a_profile_with_
 ghost use Rattle.lot_args.specs.Example.{a_shown_import, an_import_by_profile, an_import_of_accepted};
 ghost use Rattle.lot_args.specs.Example.{an_import_without_batch, an_import_without_gains, profile_of, shown_of};
 ghost use Rattle.lot_args.specs.Example.{a_kept_preview, a_previewed_import, a_previewed_post, previewed_of};
+ghost use Rattle.lot_args.specs.Example.{a_key_twice, a_page_of_a_day, a_post_with_sales};
 ghost use Rattle.lot_args.specs.Example.{flags_of, parts_of, row_of, word_crumbs_of};
 ghost use Rattle.lot_args.specs.Program.{program_app};
 ghost use Rattle.lot_args.specs.Required.{demanding_app};
 ghost use Rattle.lot_args.specs.Rounding.{rounding_of};
+ghost use Rattle.lot_args.specs.Tip.{tip_for};
 ghost use Rattle.lot_args.specs.Words.{bad_by, misplaced_by, missing_by};
-ghost use Rattle.lot_args.specs.declared.fault.BadOption.TheVariants.{Except, From, Gains as GainsAccount, PostGains, Rounding, Show, WithoutEntries};
+ghost use Rattle.lot_args.specs.declared.fault.BadOption.TheVariants.{By, Except, From, Gains as GainsAccount, PostGains, Rounding, Show, WithoutEntries};
 ghost use Rattle.lot_args.specs.declared.fault.Needed.TheVariants.{Accounts, Book};
 ghost use Rattle.lot_rounding.specs.Rounding.{half_a_cent};
 ghost use Rattle.lot_args.specs.declared.action.Keeping.TheVariants.{AllOrNone, Each};
 ghost use Rattle.lot_args.specs.declared.request.Effect.TheVariants.{DryRun, Keep};
 ghost use Rattle.lot_args.specs.declared.request.Notes.TheVariants.{All, Quiet, Ten};
 ghost use Rattle.lot_args.specs.declared.request.Preview.TheVariants.{Gains, GainsAndHoldings, Nothing};
+ghost use Rattle.lot_args.specs.declared.tip.Tip.TheVariants.{Gains as GainsOfDryRun, Last};
 ghost use Rattle.lot_without.specs.Value.{under};
 ghost use Rattle.lot_without.specs.declared.terms.Strictness.TheVariants.{Edited, Unchanged};
 ghost use Rattle.lot_without.specs.declared.terms.Tolerance.TheVariants.{AllAccepted, KeepGoing};
@@ -57,6 +61,21 @@ pub fn a_dry_run_tells_what_it_would_leave()
         ≡ Some (DryRun Gains, AllOrNone) }
     ensures kept_taken { takes program_app a_kept_preview ≡ true }
     ensures bad { bad_by a_kept_preview ≡ Some PostGains }
+{}
+
+/// `clap` accepts the arguments `gains --book f --by year,term,year`, and `--by` is the option with a bad value.
+pub fn a_key_that_is_named_twice_is_bad()
+    ensures taken { takes program_app a_key_twice ≡ true }
+    ensures bad { bad_by a_key_twice ≡ Some By }
+{}
+
+/// `clap` refuses an option that the subcommand doesn't have: `--as-of` of `page`, and `--sales` of `post`. These are the options that
+/// it has in their place.
+pub fn an_option_of_another_name_has_a_tip()
+    ensures page { fault_of program_app a_page_of_a_day ≡ UnknownArgument ∷ [] }
+    ensures last { tip_for a_page_of_a_day ≡ Some Last }
+    ensures post { fault_of program_app a_post_with_sales ≡ UnknownArgument ∷ [] }
+    ensures gains { tip_for a_post_with_sales ≡ Some GainsOfDryRun }
 {}
 
 /// `clap` accepts an import with `--except r --except s --from 7`. Its values are within their rules, and these are the references

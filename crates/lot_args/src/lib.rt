@@ -9,7 +9,7 @@
 //!   the values say; `effect`: how a call is to be done; `without`: which entries of a dump are left
 //!   out.
 //! - `required`: what `clap` says of an import that lacks an option.
-//! - `fault`: why arguments give no request.
+//! - `fault`: why arguments give no request. `tip`: which option is meant by one that a subcommand has under another name.
 //! - `laws`: what holds of the definitions that the contracts cite.
 #![tactic(auto)]
 
@@ -26,6 +26,7 @@ mod program;
 mod request;
 mod required;
 mod start;
+mod tip;
 mod values;
 mod without;
 mod words;
@@ -39,4 +40,5 @@ pub use fault::{BadOption, Needed, WordsFault};
 pub use request::{Effect, Notes, Preview, Request};
 pub use required::require_options;
 pub use start::Start;
+pub use tip::{Tip, tip_for};
 pub use words::parse_words;

@@ -14,7 +14,8 @@ ghost use Rattle.lot_args.specs.Options.{account_options, day_of, except_of, fir
 ghost use Rattle.lot_args.specs.Options.{has_account, has_profile, has_rounding, is_format};
 ghost use Rattle.lot_args.specs.Options.{is_good, name_of, rounding_options, value_of};
 ghost use Rattle.lot_args.specs.From.{from_of};
-ghost use Rattle.lot_args.specs.Keys.{are_keys, key_named, keys_in, keys_of, parts_of};
+ghost use Rattle.lot_args.specs.Keys.{all_name_keys, are_keys, is_named_once, key_named, keys_in};
+ghost use Rattle.lot_args.specs.Keys.{keys_of, names_none_twice, parts_of};
 ghost use Rattle.lot_args.specs.Number.{number_of};
 ghost use Rattle.lot_args.specs.Rounding.{decimals_of, named_bound, rounding_of, within_of};
 ghost use Rattle.lot_args.specs.Words.{accounts_of, format_of};
@@ -186,11 +187,38 @@ pub(crate) fn day(options: &ArgMatches<'_>, option: BadOption) -> Option<Day>
     Day::parse(given(options, option.name())?).ok()
 }
 
-/// Returns whether a text names keys of a table of gains, joined by commas.
+/// Returns whether a text names keys of a table of gains, joined by commas, and none of them twice.
 pub(crate) fn are_keys(text: &str) -> bool
     ensures { result ≡ are_keys text.now }
 {
+    all_name_keys(text) && names_none_twice(text)
+}
+
+/// Returns whether each part of a text between commas names a key.
+fn all_name_keys(text: &str) -> bool
+    ensures { result ≡ all_name_keys text.now }
+{
     text.split(',').all(|part| key_named(part).is_some())
+}
+
+/// Returns whether no two parts of a text between commas name one key.
+fn names_none_twice(text: &str) -> bool
+    ensures { result ≡ names_none_twice text.now }
+{
+    is_named_once(text, "year")
+        && is_named_once(text, "commodity")
+        && is_named_once(text, "account")
+        && is_named_once(text, "term")
+}
+
+/// Returns whether no two parts of a text between commas are that name.
+fn is_named_once(text: &str, name: &str) -> bool
+    ensures { result ≡ is_named_once text.now name.now }
+{
+    text.split(',')
+        .filter(|part| *part == name)
+        .nth(1)
+        .is_none()
 }
 
 /// Returns the keys of a table of gains, or none where the option isn't given. The only error is out of memory.

@@ -1,5 +1,7 @@
 pub mod Call
 pub mod Except
+pub mod Help
+pub mod Misnamed
 pub mod Fate
 pub mod Loaded
 pub mod Looks

@@ -1,6 +1,6 @@
 //! The arguments of the program.
 
-ghost use Rattle.std.specs.Prelude.{◌≡◌, IfErr, IfOk};
+ghost use Rattle.std.specs.Prelude.{◌≡◌, IfErr, IfOk, Ok};
 ghost use Rattle.std.specs.IoError.{error_kind};
 ghost use Rattle.std.specs.Vec.Iter.{into_iter_items};
 ghost use Rattle.lot_host.specs.Answers.{IsStatusOf};
@@ -10,7 +10,7 @@ use crate::call::rounding_of;
 use crate::status::out_of_memory;
 use crate::told::end_shown;
 use clap::error::ErrorKind as UsageKind;
-use lot_args::{BadOption, Needed, Notes, Request, WordsFault, require_options};
+use lot_args::{BadOption, Needed, Notes, Request, WordsFault, require_options, tip_for};
 use lot_base::Label;
 use lot_stream::UNUSABLE;
 use lot_without::{By, Without};
@@ -41,7 +41,15 @@ const LONGEST_SHOWN: usize = 80;
 pub fn words(rt: &HostRuntime) -> Result<Vec<String>, u8>
     ensures { IfErr result IsRefusal }
 {
-    match read_words(rt) {
+    words_of(rt, read_words(rt))
+}
+
+/// Returns the words that were read, as they are. Where they couldn't be read, the error is the status of the program: why is said.
+fn words_of(rt: &HostRuntime, read: io::Result<Vec<String>>) -> Result<Vec<String>, u8>
+    ensures words { IfOk read (λ words. result ≡ Ok words) }
+    ensures refusal { IfErr result IsRefusal }
+{
+    match read {
         Ok(words) => Ok(words),
         Err(error) => Err(refuse_words(rt, &error)),
     }
@@ -97,9 +105,7 @@ pub fn say_words_fault(rt: &HostRuntime, words: &[String], fault: &WordsFault) -
     match fault {
         WordsFault::Usage(error) => match error.print(rt) {
             _ if error.use_stderr() => {
-                if matches!(error.kind(), UsageKind::MissingRequiredArgument) {
-                    show_example(rt, words);
-                }
+                show_beside(rt, words, error.kind());
                 UNUSABLE
             }
             printed => end_shown(rt, printed),
@@ -144,6 +150,23 @@ fn say_missing(rt: &HostRuntime, words: &[String], needed: Needed) {
         Needed::Book => {
             let _ = eprintln!(rt; "\nExample: {BY_PROFILE}");
         }
+    }
+}
+
+/// Shows on standard error what helps beside an error of `clap` of that kind: a call of the subcommand that lacks an option, or the
+/// option that a subcommand has under another name than it is given.
+fn show_beside(rt: &HostRuntime, words: &[String], kind: UsageKind) {
+    match kind {
+        UsageKind::MissingRequiredArgument => show_example(rt, words),
+        UsageKind::UnknownArgument => show_tip(rt, words),
+        _ => {}
+    }
+}
+
+/// Shows on standard error which option is meant, where the arguments give one that the subcommand has under another name.
+fn show_tip(rt: &HostRuntime, words: &[String]) {
+    if let Some(tip) = tip_for(words) {
+        let _ = eprintln!(rt; "\n  tip: {tip}");
     }
 }
 
@@ -307,7 +330,7 @@ fn form(option: BadOption) -> &'static str {
         BadOption::First => "a day, as in --first 2024-01-01",
         BadOption::Last => "a day, as in --last 2024-12-31",
         BadOption::By => {
-            "year, commodity, account or term, or several joined by commas, as in --by year,account"
+            "year, commodity, account or term, or several joined by commas, each once, as in --by year,account"
         }
         BadOption::Period => "year, quarter or month, as in --by quarter",
         BadOption::Format => "text or csv, as in --format csv",

@@ -1,10 +1,11 @@
 //! What the codes mean, and why the commands of a call were refused.
 
-ghost use Rattle.std.specs.Prelude.{◌≡◌, OnOk, option_copied};
+ghost use Rattle.std.specs.Prelude.{◌≡◌, OnOk, option_copied, option_map};
 ghost use Rattle.std.specs.Io.Buffered.{writer_contents};
 ghost use Rattle.lot_explain.specs.Explained.{Lists};
 ghost use Rattle.lot_host.specs.Answers.{IsShown, unusable};
 ghost use Rattle.lot_call.specs.Except.{except_of};
+ghost use Rattle.lot_call.specs.Help.{help_of};
 ghost use Rattle.lot_call.specs.Looks.{IsLookedAt};
 ghost use Rattle.lot_call.specs.Status.{status_shown, status_told};
 ghost use Rattle.lot_call.specs.Told.{AppendsProfile, IsShownSo, Tells, TellsTo, TellsWord};
@@ -202,6 +203,7 @@ fn explain_lines<'a, S: Alter>(
         lines: lines.as_slice(),
         left_out: heard.course.refused.saturating_sub(most),
         cause: cause.as_deref(),
+        help: help_of(call.action),
         rounding: rounding_of(call.action),
         findings: &crumbs.findings,
     };
@@ -274,23 +276,32 @@ fn source_of<'a>(
             (Source::Row { batch, reference }, 1)
         }
         Action::Restore(_) => (Source::Dump, 1),
-        // Its rows aren't those of a broker file.
-        Action::Reconcile(_) => {
-            let batch = "check";
-            (
-                Source::Export {
-                    batch,
-                    rows,
-                    commands,
-                },
-                1,
-            )
-        }
+        Action::Reconcile(_) => (Source::Statement, 1),
         Action::Check { .. }
         | Action::Init { .. }
         | Action::Migrate { .. }
         | Action::Report { .. }
         | Action::Verify { .. } => (Source::Text { batch: "check" }, 1),
+    }
+}
+
+/// Returns what helps where the book that an action takes up is damaged. Of an action that judges a whole book, or makes one, it is
+/// `None`.
+fn help_of(action: &Action) -> Option<&'static str>
+    ensures { option_map (λ text. text.now) result ≡ help_of action.now }
+{
+    match action {
+        Action::Post(_)
+        | Action::PostRow { .. }
+        | Action::Import(_)
+        | Action::ImportBy(_)
+        | Action::Report { .. }
+        | Action::Reconcile(_) => Some("lotbook verify says where the damage shows"),
+        Action::Check { .. }
+        | Action::Init { .. }
+        | Action::Migrate { .. }
+        | Action::Restore(_)
+        | Action::Verify { .. } => None,
     }
 }
 

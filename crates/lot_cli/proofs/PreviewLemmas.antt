@@ -41,6 +41,7 @@ module _ (old new : State) where
     of_book = λ clean entries stands.
         is ∙ ap (λ (number : Option ℕ). unwrap_or number 0) (a.says clean stands.tables stands.has ∙ ap greatest_number stands.stand.entry)
         ∙ greatest_counts entries;
+    of_tables = λ clean tables has. is ∙ ap (λ (number : Option ℕ). unwrap_or number 0) (a.says clean tables has);
     same = λ clean. unchanged_stays old new (a.same clean);
     damaged = λ clean at. cc;
     failed = λ clean at. cc;
@@ -53,6 +54,7 @@ module _ (old new : State) where
   pub uncounted : old.step_limit ≡ None → (fault : Fault) → Greatest old new (Err fault) → Counts old new (Err (store_fault_of fault))
   uncounted limit Device a = record {
     of_book = λ clean. tt;
+    of_tables = λ clean. tt;
     same = λ clean. tt;
     damaged = λ clean at. cc;
     failed = λ clean at. a.device clean refl;
@@ -63,6 +65,7 @@ module _ (old new : State) where
   }
   uncounted limit Damaged a = record {
     of_book = λ clean. tt;
+    of_tables = λ clean. tt;
     same = λ clean. tt;
     damaged = λ clean at entries stands. a.damaged clean refl limit stands.tables stands.has stands.stand.good.entry;
     failed = λ clean at. cc;
@@ -73,6 +76,7 @@ module _ (old new : State) where
   }
   uncounted limit Memory a = record {
     of_book = λ clean. tt;
+    of_tables = λ clean. tt;
     same = λ clean. tt;
     damaged = λ clean at. cc;
     failed = λ clean at. cc;

@@ -11,7 +11,9 @@ use Rattle.lot_book_report.specs.declared.fault.ShowFault.TheVariants.{Walk as A
 use Rattle.lot_input.specs.Input.{Reading}
 use Rattle.lot_io.specs.Writes.{WriteCalls, WritesMade}
 use Rattle.lot_page.specs.Cursor.{Stays}
+use Rattle.lot_rows.specs.Tables.{Has, Tables}
 use Rattle.lot_stored.specs.StandFor.{Stands}
+use Rattle.lot_store.specs.Extent.{entries_in}
 use Rattle.lot_store.specs.declared.fault.AdoptFault.TheVariants as adopt
 use Rattle.lot_store.specs.declared.fault.StoreFault.{StoreFault}
 use Rattle.lot_store.specs.declared.fault.StoreFault.TheVariants.{Damaged, Device, InDoubt, NeedsReopen}
@@ -27,9 +29,11 @@ use Rattle.lot_cli.specs.declared.halt.Halt.TheVariants as halt
 
 -- ---- how many entries there were
 
--- The entries of a book are counted, or why they can't be. That changes nothing.
+-- The entries of a book are counted, or why they can't be: whatever the tables stand for, by the greatest number. That changes
+-- nothing.
 pub record Counts (old new : State) (counted : Result ℕ StoreFault) : Type 0 where
   pub of_book : HasCleanDisk new → IfOk counted (λ count. (entries : List Entry) → Stands old entries → count ≡ length entries)
+  pub of_tables : HasCleanDisk new → IfOk counted (λ count. (tables : Tables) → Has old tables → count ≡ entries_in tables)
   pub same : HasCleanDisk new → OnOk counted (Stays old new)
   -- damage is found only where the tables stand for no book
   pub damaged : HasCleanDisk new → counted ≡ Err Damaged → (entries : List Entry) → ¬ Stands old entries

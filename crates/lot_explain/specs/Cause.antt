@@ -1,12 +1,14 @@
 -- What stands behind what is said of a fault.
-use Rattle.std.specs.Prelude.{◌||◌, [], Bool, List, ℕ, Option, Some, codes, true}
+use Rattle.std.specs.Prelude.{◌||◌, if◌then◌else◌, [], List, ℕ, Option, Some, None, codes}
 use Rattle.std.specs.Str.{bytes_eq}
 
--- the disk refused, before a commit or in one
-abbrev pub is_of_disk : List ℕ → Bool
-is_of_disk code = bytes_eq code (codes "S4") || bytes_eq code (codes "S5")
+-- what is known of a fault with that code: where the disk refused, before a commit or in one, why; where the book is damaged, what helps
+abbrev pub known_of : List ℕ → Option (List ℕ) → Option (List ℕ) → Option (List ℕ)
+known_of code cause help =
+    if bytes_eq code (codes "S4") || bytes_eq code (codes "S5") then cause
+    else (if bytes_eq code (codes "S7") then help else None)
 
--- a colon and why the system refused, where that is known
-abbrev pub cause_behind : Bool → Option (List ℕ) → List ℕ × List ℕ
-cause_behind true (Some cause) = (codes ": ", cause)
-cause_behind _ _ = ([], [])
+-- a colon and that, where something is known
+abbrev pub behind : Option (List ℕ) → List ℕ × List ℕ
+behind (Some known) = (codes ": ", known)
+behind None = ([], [])

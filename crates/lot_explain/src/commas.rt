@@ -1,4 +1,4 @@
-//! Which numbers have a comma: those of a line of ledger text, and those of the columns of a broker file.
+//! Which numbers have a comma: those of a line of ledger text, and those of the columns of a broker file, or of a statement.
 
 ghost use Rattle.std.specs.Prelude.{◌≡◌, option_map};
 ghost use Rattle.csv.specs.Records.{fields_of};
@@ -45,13 +45,13 @@ pub(crate) struct Column {
 
 impl Column {
     /// No rows.
-    const NONE: Column = Column {
+    pub(crate) const NONE: Column = Column {
         first: None,
         more: 0,
     };
 
     /// Returns the same with the row of that number, which has that field.
-    fn with(self, row: usize, field: &[u8]) -> Column
+    pub(crate) fn with(self, row: usize, field: &[u8]) -> Column
         ensures { result ≡ with_field row field.now self }
     {
         if has_comma(field) {

@@ -12,8 +12,8 @@
 //!   and `known`: those that were found. The book itself isn't lent to this crate.
 //! - `crumbs`: what was found of their crumbs as they were judged (`finding`); `bound`: how large these
 //!   are. `form`: whether an entry is a completion of a command.
-//! - `left_out`: rows that are left out. `warning`: what may have been meant otherwise. `commas`: which columns of a broker file have
-//!   numbers with a comma.
+//! - `left_out`: rows that are left out. `warning`: what may have been meant otherwise. `commas`: which columns of a broker file, or of
+//!   a statement, have numbers with a comma.
 //! - `reading`: the commands of an input. `site`: on which line a command stands; `records`: the
 //!   records of a broker file; `export`: the rows of a broker's export, and its lines.
 //! - `split`: why lots aren't split.

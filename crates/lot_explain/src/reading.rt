@@ -29,6 +29,8 @@ pub(crate) enum Reading<'a> {
         rows: &'a ExportRows,
         commands: &'a [(Key, Asked)],
     },
+    /// A statement, which says no command.
+    Statement,
     /// A dump, of which nothing is kept.
     Dump,
 }
@@ -54,6 +56,7 @@ impl<'a> Reading<'a> {
                 records: Records::new(alloc, transcript.input)?,
             },
             Source::Export { rows, commands, .. } => Reading::Export { rows, commands },
+            Source::Statement => Reading::Statement,
             Source::Dump => Reading::Dump,
         })
     }
@@ -61,7 +64,8 @@ impl<'a> Reading<'a> {
     /// Returns the first record of a broker file as it stands there, without blanks around it.
     pub(crate) fn header(&self) -> &[u8] {
         match self {
-            Reading::Text { .. } | Reading::Export { .. } | Reading::Dump => b"",
+            Reading::Text { .. } | Reading::Export { .. } | Reading::Statement | Reading::Dump =>
+                b"",
             Reading::Rows { records, .. } => records.header.trim_ascii(),
         }
     }
@@ -85,6 +89,7 @@ impl<'a> Reading<'a> {
             }),
             Reading::Rows { records, .. } => records.go_to(number),
             Reading::Export { rows, .. } => Ok(place_in(rows, number)),
+            Reading::Statement => Ok(InputPlace::RowNumber(number)),
             Reading::Dump => Ok(InputPlace::Unkept(number)),
         }
     }

@@ -2,7 +2,7 @@
 //! at.
 
 ghost use Rattle.std.specs.Prelude.{◌≡◌, option_map};
-ghost use Rattle.lot_explain.specs.Cause.{cause_behind, is_of_disk};
+ghost use Rattle.lot_explain.specs.Cause.{behind, known_of};
 
 use crate::crumbs::crumbs;
 use crate::explained::find;
@@ -57,9 +57,10 @@ pub(crate) fn note_lines<W: Write>(
             Some(said) if said.code.starts_with('X') && !matches!(reading, Reading::Dump) => {
                 faulty_lines(alloc, notes, transcript.input)?;
             }
-            // What is wrong with an export is said by who knows its profile.
-            Some(said) if said.code.starts_with('C') && matches!(reading, Reading::Export { .. }) =>
-                {}
+            // What is wrong with an export is said by who knows its profile, and with a statement beside this.
+            Some(said)
+                if said.code.starts_with('C')
+                    && matches!(reading, Reading::Export { .. } | Reading::Statement) => {}
             Some(said) if said.code == "C2" => faulty_rows(alloc, notes, transcript.input)?,
             Some(said) => note_said(alloc, notes, known, transcript, reading, &said)?,
             None => {}
@@ -93,14 +94,14 @@ fn note_said<W: Write>(
             )
         }
         None => {
-            let (colon, cause) = cause_behind(said.code, transcript.cause);
+            let (colon, cause) = behind(known_of(said.code, transcript.cause, transcript.help));
             notes.note(
                 InputPlace::Whole,
                 format_args!("{code}: {brief}{colon}{cause}"),
             )
         }
         Some(number) => {
-            let (colon, cause) = cause_behind(said.code, transcript.cause);
+            let (colon, cause) = behind(known_of(said.code, transcript.cause, transcript.help));
             let fact = told_of(alloc, known, &*transcript, reading, number, &*said)?;
             let place = reading.go_to(number, said.posting)?;
             notes.note(place, format_args!("{code}: {brief}{colon}{cause}{fact}"))
@@ -108,15 +109,27 @@ fn note_said<W: Write>(
     }
 }
 
-/// Returns what stands behind what is said of a code: of a fault of the disk why the system refused,
-/// where that is known, and of any other nothing.
-fn cause_behind<'a>(code: &str, cause: Option<&'a str>) -> (&'static str, &'a str)
-    ensures { (result.0.now, result.1.now)
-        ≡ cause_behind (is_of_disk code.now) (option_map (λ text. text.now) cause.entry) }
+/// Returns what is known of a fault with that code: of one of the disk why the system refused, of damage what helps, and of any other
+/// nothing.
+fn known_of<'a>(code: &str, cause: Option<&'a str>, help: Option<&'a str>) -> Option<&'a str>
+    ensures { option_map (λ text. text.now) result
+        ≡ known_of code.now (option_map (λ text. text.now) cause.entry)
+        (option_map (λ text. text.now) help.entry) }
 {
-    match cause {
-        Some(cause) if matches!(code, "S4" | "S5") => (": ", cause),
-        _ => ("", ""),
+    match code {
+        "S4" | "S5" => cause,
+        "S7" => help,
+        _ => None,
+    }
+}
+
+/// Returns what stands behind what is said of a fault, with a colon before it, where something is known of it.
+fn behind<'a>(known: Option<&'a str>) -> (&'static str, &'a str)
+    ensures { (result.0.now, result.1.now) ≡ behind (option_map (λ text. text.now) known.entry) }
+{
+    match known {
+        Some(text) => (": ", text),
+        None => ("", ""),
     }
 }
 
@@ -182,7 +195,7 @@ fn told_of<'a>(
             Some(row) => told_of_export(alloc, known, transcript, number, row, commands, said),
             None => Ok(String::new(alloc)),
         },
-        Reading::Dump => Ok(String::new(alloc)),
+        Reading::Statement | Reading::Dump => Ok(String::new(alloc)),
     }
 }
 

@@ -8,7 +8,7 @@ use crate::notebook::Notebook;
 use crate::reading::Reading;
 use crate::refused::note_lines;
 use crate::wanted::wanted;
-use crate::warning::{warn_of_rows, warn_of_text};
+use crate::warning::{warn_of_rows, warn_of_statement, warn_of_text};
 use lot_base::Label;
 use lot_command::Key as CommandKey;
 use lot_import::{Accounts, Row};
@@ -39,6 +39,8 @@ pub enum Source<'a> {
         rows: &'a ExportRows,
         commands: &'a [(CommandKey, Asked)],
     },
+    /// A statement of what an account holds.
+    Statement,
     /// A dump, which isn't kept.
     Dump,
 }
@@ -78,6 +80,8 @@ pub struct Transcript<'a> {
     pub left_out: u64,
     /// Why the system refused a call of the book's files, where it did.
     pub cause: Option<&'a str>,
+    /// What helps where the book is damaged, unless something else says that.
+    pub help: Option<&'a str>,
     /// The account that takes crumbs, where one does.
     pub rounding: Option<&'a Rounding>,
     /// What was found of the crumbs of refused commands.
@@ -86,13 +90,13 @@ pub struct Transcript<'a> {
 
 impl<'a> Transcript<'a> {
     /// Returns the key of a command. Its name is the number of the command or, in a broker file,
-    /// the `ref`. Those of a dump aren't known.
+    /// the `ref`. Those of a dump aren't known, and a statement has none.
     pub(crate) fn key(&self, name: &'a str) -> Key<'a> {
         let (word, batch, name) = match self.source {
             Source::Text { batch } => ("post", batch, name),
             Source::Row { batch, reference } => ("import", batch, reference),
             Source::Rows { batch, .. } | Source::Export { batch, .. } => ("import", batch, name),
-            Source::Dump => ("", "", name),
+            Source::Statement | Source::Dump => ("", "", name),
         };
         Key { word, batch, name }
     }
@@ -171,12 +175,13 @@ impl<'a> Explanation<'a> {
             Reading::Export { rows, .. } => note_left_out_by_name(
                 alloc, writer, transcript, *rows, most,
             )?,
-            Reading::Text { .. } | Reading::Dump => {}
+            Reading::Text { .. } | Reading::Statement | Reading::Dump => {}
         }
         let mut warnings = Notebook::new(alloc, writer, most);
         match &reading {
             Reading::Text { .. } => warn_of_text(alloc, &mut warnings, known, transcript)?,
             Reading::Rows { rows, .. } => warn_of_rows(alloc, &mut warnings, transcript, rows)?,
+            Reading::Statement => warn_of_statement(alloc, &mut warnings, transcript)?,
             Reading::Export { .. } | Reading::Dump => {}
         }
         warnings.end()

@@ -74,7 +74,7 @@ fn of_number<'a>(
                 None => Ok(None),
             }
         }
-        Reading::Dump => Ok(None),
+        Reading::Statement | Reading::Dump => Ok(None),
     }
 }
 

@@ -1,6 +1,6 @@
 //! What is read otherwise than it may have been meant, though no rule is broken.
 
-use crate::commas::{Commas, first_with_comma};
+use crate::commas::{Column, Commas, first_with_comma};
 use crate::known::Known;
 use crate::notebook::Notebook;
 use crate::place::InputPlace;
@@ -19,6 +19,13 @@ use std::alloc::{AllocError, Global};
 use std::collections::BTreeMap;
 use std::io::{self, Write};
 use std::{fmt, str};
+
+/// What helps where numbers of a broker file have a comma.
+const OF_IMPORT: &str =
+    "; try --all-or-none --dry-run first, or a profile that says what the comma is";
+
+/// The column of the units of a statement, counted from 0.
+const STATED_UNITS: usize = 1;
 
 /// Warns of lines of a ledger text, and of a start past its end.
 pub(crate) fn warn_of_text<W: Write>(
@@ -236,10 +243,51 @@ fn warn_of_commas<W: Write>(
         if let Some(first) = column.first {
             let mut records = Records::new(alloc, transcript.input)?;
             records.go_to(first)?;
-            warn_of_column(alloc, notes, &records, name, place, column.more)?;
+            warn_of_column(alloc, notes, &records, name, place, column.more, OF_IMPORT)?;
         }
     }
     Ok(())
+}
+
+/// Warns of the units of a statement, where a number has a comma, at the first such row. Of a faulty statement it says nothing.
+pub(crate) fn warn_of_statement<W: Write>(
+    alloc: Global,
+    notes: &mut Notebook<'_, W>,
+    transcript: &Transcript<'_>,
+) -> io::Result<()> {
+    let file = transcript.input;
+    // A field with a comma stands in quotes.
+    if !transcript.lines.is_empty() || memchr(b'"', file).is_none() {
+        return Ok(());
+    }
+    let column = commas_of_statement(alloc, file)?;
+    if let Some(first) = column.first {
+        let mut records = Records::new(alloc, file)?;
+        records.go_to(first)?;
+        warn_of_column(
+            alloc,
+            notes,
+            &records,
+            "units",
+            STATED_UNITS,
+            column.more,
+            "",
+        )?;
+    }
+    Ok(())
+}
+
+/// Returns in which rows of a statement the units have a comma. The only error is out of memory.
+fn commas_of_statement(alloc: Global, file: &[u8]) -> Result<Column, AllocError> {
+    let mut records = Records::new(alloc, file)?;
+    let mut column = Column::NONE;
+    for _byte in 0..file.len() {
+        if !records.next_row()? {
+            break;
+        }
+        column = column.with(records.row, records.field(STATED_UNITS));
+    }
+    Ok(column)
 }
 
 /// Returns in which columns of a file with these rows numbers have a comma, without those that are
@@ -261,7 +309,7 @@ fn commas_in(
 }
 
 /// Warns of a column of numbers, of which the last row is the first with a comma, and so many more
-/// have one.
+/// have one; and says what helps.
 fn warn_of_column<W: Write>(
     alloc: Global,
     notes: &mut Notebook<'_, W>,
@@ -269,6 +317,7 @@ fn warn_of_column<W: Write>(
     name: &str,
     place: usize,
     more: usize,
+    help: &str,
 ) -> io::Result<()> {
     let field = records.field(place);
     let (shown, others) = (Shown(field), Others(more));
@@ -280,7 +329,7 @@ fn warn_of_column<W: Write>(
         return notes.note(
             records.place(),
             format_args!(
-                "warning: {name} {shown} is read as {value}: commas are skipped, decimals stand behind a point{others}; try --all-or-none --dry-run first, or a profile that says what the comma is"
+                "warning: {name} {shown} is read as {value}: commas are skipped, decimals stand behind a point{others}{help}"
             ),
         );
     }

@@ -19,7 +19,8 @@ use Rattle.lot_host.specs.Answers.{IsStatusOf}
 use Rattle.lot_host.specs.Done.{IsDone}
 use Rattle.lot_host.specs.declared.host.Host.{Ghosts}
 
--- what is wrong with words, or that they ask for help
+-- What is wrong with words, or that they ask for help. Memory can end at any words before they are matched: nothing is known of them
+-- then.
 abbrev pub HaveFault : List Text → WordsFault → Type 0
 HaveFault words (Usage error) = IsAmong (kind_of error) (fault_of program_app words)
 HaveFault words (Misplaced option) = HaveMisplaced words option

@@ -5,15 +5,19 @@ use Rattle.lot_files.specs.declared.opened.Opened.TheVariants as opened
 use Rattle.lot_host.specs.declared.stage.Part.{Part}
 use Rattle.lot_host.specs.declared.stage.Part.TheVariants.{Old, Own}
 use Rattle.lot_host.specs.declared.stage.Stage.{Stage}
-use Rattle.lot_host.specs.declared.stage.Stage.TheVariants.{InCopy, InFile, OldOpened, OldTaken, Over, Refused, Served, Warned}
+use Rattle.lot_host.specs.declared.stage.Stage.TheVariants.{InCopy, InFile, Loaded, OldOpened, OldTaken, Over, Refused, Served, Warned}
+
+-- no book is opened: the words are warned of, and where they name a profile, that is read
+abbrev pub IsUnopened : Stage → Type 0
+IsUnopened stage = (stage ≡ Warned) ⊎ (stage ≡ Loaded)
 
 -- the book of an action is opened once, behind the one beside which it is made
 abbrev pub IsBefore : Stage → Type 0
-IsBefore stage = (stage ≡ Warned) ⊎ (stage ≡ OldTaken)
+IsBefore stage = IsUnopened stage ⊎ (stage ≡ OldTaken)
 
 abbrev pub MayOpen : Part → Stage → Type 0
 MayOpen Own stage = IsBefore stage
-MayOpen Old stage = stage ≡ Warned
+MayOpen Old stage = IsUnopened stage
 
 -- why none is opened is told where none is
 abbrev pub MayTell : Stage → Type 0

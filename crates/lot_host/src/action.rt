@@ -6,9 +6,9 @@ ghost use Rattle.lot_host.specs.Answers.{stopped};
 ghost use Rattle.lot_host.specs.Done.{ComesTo, ComesToOfNothing, ComesToOfPath, HasNoOld, IsDone};
 ghost use Rattle.lot_host.specs.Done.{IsItsOld, IsOldOf, IsReadOf, LacksOld};
 ghost use Rattle.lot_host.specs.Access.{old_of};
-ghost use Rattle.lot_host.specs.Stage.{IsBefore, MayServe, MayTell, served_of};
+ghost use Rattle.lot_host.specs.Stage.{IsBefore, IsUnopened, MayServe, MayTell, served_of};
 ghost use Rattle.lot_host.specs.declared.stage.Stage.TheVariants.{InCopy, InFile, OldOpened};
-ghost use Rattle.lot_host.specs.declared.stage.Stage.TheVariants.{OldTaken, Over, Refused, Warned};
+ghost use Rattle.lot_host.specs.declared.stage.Stage.TheVariants.{OldTaken, Over, Refused};
 
 use crate::access::{access_of, makes_file, old_of, path_of};
 use crate::host::{Host, Task};
@@ -22,7 +22,7 @@ use lot_stream::REFUSED;
 /// that; to be read for a report. Where there is no such file, and the action makes none, it is done on an empty database; a check
 /// always is. Where a new book is to be compared with an old one, that one is taken up first.
 pub fn act<H: Host>(host: &mut H, task: &Task) -> u8
-    requires { H.stage host.old ≡ Warned }
+    requires { IsUnopened (H.stage host.old) }
     ensures done { IsDone H.Host task.now.action task.now.effect result }
     ensures over { H.stage host.new ≡ Over }
 {
@@ -48,7 +48,7 @@ pub fn act<H: Host>(host: &mut H, task: &Task) -> u8
 
 /// Takes up the old book that an action names, where it names one. The error is the status of the program.
 fn old_for<H: Host>(host: &mut H, task: &Task) -> Result<Option<H::Old>, u8>
-    requires { H.stage host.old ≡ Warned }
+    requires { IsUnopened (H.stage host.old) }
     ensures old { IfOk result (IsItsOld H.Host (old_of task.now.action)) }
     ensures before { IfOk result (λ _. IsBefore (H.stage host.new)) }
     ensures fault { IfErr result (LacksOld H.Host task.now.action) }
@@ -65,7 +65,7 @@ fn old_for<H: Host>(host: &mut H, task: &Task) -> Result<Option<H::Old>, u8>
 
 /// Takes up the book of that path, to be read. The error is the status of the program.
 fn old_in<H: Host>(host: &mut H, task: &Task, path: &str) -> Result<H::Old, u8>
-    requires { H.stage host.old ≡ Warned }
+    requires { IsUnopened (H.stage host.old) }
     ensures old { IfOk result (IsOldOf H.Host path.now) }
     ensures taken { IfOk result (λ _. H.stage host.new ≡ OldTaken) }
     ensures fault { IfErr result (HasNoOld H.Host path.now) }
@@ -79,7 +79,7 @@ fn old_in<H: Host>(host: &mut H, task: &Task, path: &str) -> Result<H::Old, u8>
 
 /// Opens the database in the file of that path to be read, or an empty one where there is no such file.
 fn open_to_read<H: Host>(host: &mut H, path: &str) -> Result<H::Database, Cause>
-    requires { H.stage host.old ≡ Warned }
+    requires { IsUnopened (H.stage host.old) }
     ensures read { IfOk result (IsReadOf H.Host (library_path path.now)) }
     ensures ready { IfOk result H.is_ready }
     ensures opened { IfOk result (λ _. H.stage host.new ≡ OldOpened) }

@@ -9,7 +9,7 @@ ghost use Rattle.lot_files.specs.Path.{library_path};
 ghost use Rattle.lot_host.specs.Answers.{IsStatusOf, stopped};
 ghost use Rattle.lot_host.specs.Stage.{MayOpen, MayServe, MayTell, served_of, stage_empty, stage_of};
 ghost use Rattle.lot_host.specs.declared.stage.Stage.{Stage as StageOf};
-ghost use Rattle.lot_host.specs.declared.stage.Stage.TheVariants.{Begun, OldOpened, OldTaken};
+ghost use Rattle.lot_host.specs.declared.stage.Stage.TheVariants.{Begun, Loaded, OldOpened, OldTaken};
 ghost use Rattle.lot_host.specs.declared.stage.Stage.TheVariants.{Over, Refused, Served, Warned};
 ghost use Rattle.lot_files.specs.Opened.{IsOpenedFor, IsSo};
 ghost use Rattle.lot_profile.specs.declared.profile.Profile.{Profile as ProfileOf};
@@ -178,17 +178,17 @@ pub trait Host {
         ensures stops { result ≡ stopped }
         ensures over { stage self.new ≡ Over };
 
-    /// Reads the profile in the file of that path. The error is the status of the program: why there is none is said.
+    /// Reads the profile in the file of that path, once. The error is the status of the program: why there is none is said.
     fn load(&mut self, path: &str) -> Result<(Profile, Option<Rounding>), u8>
         requires { stage self.old ≡ Warned }
         ensures loaded { IfOk result (λ loaded. has_profile path.now loaded.0 loaded.1) }
-        ensures stage { IfOk result (λ _. stage self.new ≡ Warned) }
+        ensures stage { IfOk result (λ _. stage self.new ≡ Loaded) }
         ensures fault { IfErr result (refuses_profile path.now) }
         ensures over { IfErr result (λ _. stage self.new ≡ Over) };
 
     /// Shows what an export comes to by a profile, and returns the status.
     fn show(&mut self, profile: &Profile, notes: Notes) -> u8
-        requires { stage self.old ≡ Warned }
+        requires { stage self.old ≡ Loaded }
         ensures shows { shows profile.now result }
         ensures over { stage self.new ≡ Over };
 

@@ -15,6 +15,8 @@ pub enum Stage {
     Begun,
     /// What the words may have been meant for is said.
     Warned,
+    /// The profile that they name is read.
+    Loaded,
     /// The book beside which a new one is made is opened.
     OldOpened,
     /// It is taken up.

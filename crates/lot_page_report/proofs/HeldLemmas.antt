@@ -1,20 +1,20 @@
 -- Holdings that are valued and added up one by one.
-use Rattle.std.specs.Prelude.{Bool, cond, false, true}
+use Rattle.std.specs.Prelude.{Bool, IsTrue, cond, false, not, true}
 use Rattle.std.specs.BTreeMap.{BTreeMap, IsOrdered, get}
 use Rattle.std.specs.Option.{unwrap_or}
 use Rattle.std.specs.Ordering.{is_eq}
-use Rattle.std.proofs.Common.{◌≡◌, ℕ, List, [], ◌∷◌, ◌++◌, map, Option, None, Some, ap, refl, sym, ◌∙◌, append-nil, append_assoc}
+use Rattle.std.proofs.Common.{◌≡◌, ℕ, List, [], ◌∷◌, ◌++◌, map, Option, None, Some, ap, refl, sym, ◌∙◌, append-nil, append_assoc, subst}
 use Rattle.std.proofs.lemmas.List.{map-append}
 use Rattle.lot_base.proofs.TextLemmas.{one_text, same_text-ordered, same_text-turned}
 use Rattle.lot_base.specs.Text.{same_text, text_cmp}
 use Rattle.lot_book.specs.declared.holding.Holding.{Holding}
 use Rattle.lot_book_report.specs.Holdings.{valued_with}
 use Rattle.lot_book_report.specs.declared.prices.DayPrices.{DayPrices}
-use Rattle.lot_cells.specs.Holdings.{totals_with}
+use Rattle.lot_cells.specs.Holdings.{has_room, totals_with}
 use Rattle.lot_cells.specs.declared.holdings.LotTotals.{LotTotals}
 use Rattle.lot_cost.specs.declared.lot_key.LotKey.{LotKey}
 use Rattle.lot_report.specs.declared.holdings.ValuedHolding.{ValuedHolding}
-use Rattle.lot_page_report.specs.Held.{IsHeld, Totalled}
+use Rattle.lot_page_report.specs.Held.{IsHeld, Totalled, TotalsLeaveRange}
 use Rattle.lot_page_report.specs.Parts.{no_lots, with_lot, with_row, with_rows}
 use Rattle.lot_page_report.specs.Sections.{account_front, row_html, rows_behind}
 use Rattle.lot_page_report.specs.declared.held.Held.{Held}
@@ -59,6 +59,25 @@ held_more prices holdings left rest holding row rows later old new had is same p
   ordered = ordered had.ordered;
 }
 
+-- the totals have no room for the next one
+pub held_out : (prices : DayPrices) (holdings left rest : List Holding) (holding : Holding) (row : ValuedHolding) (rows : List ValuedHolding)
+    (totals : BTreeMap (List ℕ) LotTotals) → HeldSoFar prices holdings left rows totals → left ≡ holding ∷ rest → row ≡ valued_with (Some prices) holding
+    → ((lot : LotKey) × (row.holding.lot ≡ Some lot)
+    × IsTrue (not (has_room (unwrap_or (get text_cmp totals lot.currency) no_lots) lot row.holding.units row.valuation)))
+    → TotalsLeaveRange (map (valued_with (Some prices)) holdings)
+held_out prices holdings left rest holding row rows totals had is same (lot, is_lot, out) = record {
+  given = rows;
+  row = row;
+  rest = map (valued_with (Some prices)) rest;
+  split = ap (map (valued_with (Some prices))) (sym had.all ∙ ap (λ (hs : List Holding). had.given ++ hs) is)
+      ∙ map-append (valued_with (Some prices)) had.given (holding ∷ rest)
+      ∙ (λ i. sym had.rows_are i ++ sym same i ∷ map (valued_with (Some prices)) rest);
+  lot = lot;
+  is_lot = is_lot;
+  out = subst (λ (total : Option LotTotals). IsTrue (not (has_room (unwrap_or total no_lots) lot row.holding.units row.valuation)))
+      (had.each lot.currency) out;
+}
+
 pub held_all : (prices : DayPrices) (holdings left : List Holding) (held : Held) → left ≡ []
     → HeldSoFar prices holdings left held.rows.items held.totals → IsHeld (Some prices) holdings held
 held_all prices holdings left held none had =
@@ -69,6 +88,10 @@ held_all prices holdings left held none had =
     }
 
 -- ---- one holding
+
+pub no_room : (b : Bool) → ¬ IsTrue b → IsTrue (not b)
+no_room true none = absurd (none refl)
+no_room false none = refl
 
 text_tells : (a b : List ℕ) → is_eq (text_cmp a b) ≡ same_text a b
 text_tells a b = same_text-ordered a b ∙ same_text-turned a b (same_text a b) refl

@@ -1,7 +1,8 @@
 -- What a page is made of, by what was read of a book.
 use Rattle.std.specs.Prelude.{false}
-use Rattle.std.proofs.Common.{◌≡◌, ◌∙◌, ℤ, List, map, Option, None, Some, ap, refl, sym, subst}
+use Rattle.std.proofs.Common.{◌≡◌, ◌∙◌, ℤ, List, map, Option, None, Some, ap, inl, inr, refl, sym, subst}
 use Rattle.lot_book.specs.Facts.{Entry}
+use Rattle.lot_book_report.proofs.PriceLemmas.{all_valued}
 use Rattle.lot_book_report.specs.Fault.{is_of_writer}
 use Rattle.lot_book_report.specs.Holdings.{KeepsPrices, KeepsRowPrices}
 use Rattle.lot_book_report.specs.Show.{IsOfBook}
@@ -12,7 +13,7 @@ use Rattle.lot_legs.specs.Legs.{AreAllLegRows, dated_legs}
 use Rattle.lot_legs.specs.declared.leg.DatedLeg.{DatedLeg}
 use Rattle.lot_months.specs.Lots.{HasFlows}
 use Rattle.lot_months.specs.Prices.{AreInDayOrder, HasPrices}
-use Rattle.lot_months.specs.Series.{AreSeries, shown}
+use Rattle.lot_months.specs.Series.{AreSeries, SeriesLeaveRange, shown}
 use Rattle.lot_months.specs.declared.flows.MonthFlows.{MonthFlows}
 use Rattle.lot_months.specs.declared.prices.MonthPrices.{MonthPrices}
 use Rattle.lot_months.specs.declared.range.MonthRange.{MonthRange}
@@ -23,10 +24,12 @@ use Rattle.lot_rows.specs.declared.entry.EntryRow.{EntryRow}
 use Rattle.lot_rows.specs.declared.price.PriceRow.{PriceRow}
 use Rattle.lot_stored.specs.Rows.{entry_rows}
 use Rattle.lot_page_report.proofs.QuoteLemmas.{quotes_in_order}
-use Rattle.lot_page_report.specs.Made.{AreLotRows, AreLots, AreLotsOf, AreMonthsOf}
+use Rattle.lot_page_report.specs.Made.{AreLotRows, AreLots, AreLotsOf, AreMonthsOf, LotsLeaveRange, MonthsLeaveRange}
 use Rattle.lot_page_report.specs.Counted.{HasCounted, days_in}
+use Rattle.lot_page_report.specs.Held.{TotalsLeaveRange}
+use Rattle.lot_page_report.specs.OutOfRange.{FlowsLeave, MonthsLeave, PageLeavesRange, PositionLeaves, TotalsLeave}
 use Rattle.lot_page_report.specs.Parts.{AreMonths, IsRangeFor, PageOf, covered, covered_by, days_of, end_of, price_day}
-use Rattle.lot_page_report.specs.Read.{FlowsOf, HasAllLegs, PricesOf}
+use Rattle.lot_page_report.specs.Read.{FlowsOf, HasAllLegs, MoveTooMuch, PricesOf}
 use Rattle.lot_page_report.specs.declared.counted.Counted.{Counted}
 use Rattle.lot_page_report.specs.declared.counted.Days.{Days}
 use Rattle.lot_page_report.specs.declared.parts.Lots.{Lots}
@@ -96,3 +99,36 @@ lot_rows_are page tables range legs quotes prices lots is_range keeps (all, are_
       (months_are range all tables.price legs.flows quotes lots.months.items has.flows
       (subst (λ (q : List PriceRow). PricesOf range q quotes) are_rows priced) order are.months);
 }
+
+-- ---- sums that leave their range
+
+-- what went into lots of some pair in a month does
+pub legs_leave : (page : PageOf) (entries : List Entry) (range : Option MonthRange) → IsRangeFor (covered page (entry_rows 1 entries)) range
+    → MoveTooMuch range (dated_legs entries) → PageLeavesRange page entries
+legs_leave page entries None is_range out = absurd out
+legs_leave page entries (Some range) is_range out = FlowsLeave range is_range out
+
+months_leave : (page : PageOf) (entries : List Entry) (range : Option MonthRange) (quotes : List PriceRow) (flows : Option MonthFlows)
+    (prices : Option MonthPrices) → IsRangeFor (covered page (entry_rows 1 entries)) range → AreQuotes tt entries quotes
+    → FlowsOf range (dated_legs entries) flows → PricesOf range quotes prices → MonthsLeaveRange flows prices → PageLeavesRange page entries
+months_leave page entries range quotes None prices is_range are has priced out = absurd out
+months_leave page entries range quotes (Some flows) None is_range are has priced out = absurd out
+months_leave page entries None quotes (Some flows) (Some prices) is_range are has priced out = absurd has
+months_leave page entries (Some range) quotes (Some flows) (Some prices) is_range are has priced out =
+    MonthsLeave range is_range quotes are
+    (subst (λ (r : MonthRange). SeriesLeaveRange r (dated_legs entries) quotes) has.range_is
+    (out (dated_legs entries) quotes (subst (λ (r : MonthRange). HasFlows r (dated_legs entries) flows) (sym has.range_is) has)
+    (subst (λ (r : MonthRange). HasPrices r quotes prices) (sym has.range_is) priced) (quotes_in_order entries quotes are)))
+
+-- what lots come to does, or what a position holds
+pub lots_leave : (page : PageOf) (entries : List Entry) (range : Option MonthRange) (legs : LegTally) (quotes : Option MonthPrices)
+    (prices : DayPrices) → IsRangeFor (covered page (entry_rows 1 entries)) range → KeepsPrices entries (price_day page) prices
+    → HasAllLegs (end_of page, range) (dated_legs entries) legs → ((all : List PriceRow) × AreQuotes tt entries all × PricesOf range all quotes)
+    → LotsLeaveRange legs quotes prices → PageLeavesRange page entries
+lots_leave page entries range legs quotes prices is_range keeps has priced (inl out) =
+    PositionLeaves (out (end_of page) (dated_legs entries) has.positions)
+lots_leave page entries range legs quotes prices is_range keeps has priced (inr (inl (holdings, lists, out))) =
+    TotalsLeave holdings (lists (end_of page) (dated_legs entries) has.positions) keeps.0 keeps.1
+    (subst TotalsLeaveRange (all_valued prices keeps.0 keeps.2 holdings) out)
+lots_leave page entries range legs quotes prices is_range keeps has (all, are, priced) (inr (inr out)) =
+    months_leave page entries range all legs.flows quotes is_range are has.flows priced out

@@ -2,7 +2,7 @@
 use Rattle.std.specs.Prelude.{OnOk, Result, Ok, Err, codes, false}
 use Rattle.std.specs.Io.KnownBytes.{Appends}
 use Rattle.std.specs.List.{AllByRecursion}
-use Rattle.std.proofs.Common.{◌≡◌, ◌∙◌, ℕ, List, [], ◌∷◌, ◌++◌, map, Option, None, ap, refl, sym, subst, append-nil, append_assoc}
+use Rattle.std.proofs.Common.{◌≡◌, ◌∙◌, ℕ, List, [], ◌∷◌, ◌++◌, map, Option, None, ap, inl, inr, refl, sym, subst, append-nil, append_assoc}
 use Rattle.std.proofs.KnownBytes.{Appends-nil, Appends-trans}
 use Rattle.std.proofs.lemmas.Bool.{true≢false}
 use Rattle.lot_book.specs.Facts.{Entry}
@@ -15,6 +15,7 @@ use Rattle.lot_io.specs.Writes.{NoneFailed, WriteCalls, WritesMade}
 use Rattle.lot_months.specs.Series.{shown}
 use Rattle.lot_plot.specs.Plot.{all_of}
 use Rattle.lot_report.specs.Written.{WritesLine}
+use Rattle.lot_report.specs.declared.fault.RowFault.{RowFault}
 use Rattle.lot_report.specs.declared.line.PrintFault.{PrintFault}
 use Rattle.lot_report.specs.declared.line.PrintFault.TheVariants.{Memory, Write}
 use Rattle.lot_rows.specs.Tables.{Tables}
@@ -24,12 +25,13 @@ use Rattle.lot_walk.specs.Gains.{AreAllSaleRows, AreSalesWithin, HasLegs}
 use Rattle.lot_walk.specs.Prices.{prices_by}
 use Rattle.lot_walk.specs.declared.gains.NumberedSale.{NumberedSale}
 use Rattle.lot_page_report.proofs.BalanceLemmas.{page_balanced}
+use Rattle.lot_page_report.proofs.ListLemmas.{list_split}
 use Rattle.lot_page_report.specs.Counted.{HasCounted, days_in}
-use Rattle.lot_page_report.specs.List.{Lists}
+use Rattle.lot_page_report.specs.List.{Lists, ListsRows}
 use Rattle.lot_page_report.specs.Made.{IsPageOfBook, IsPageOfTables}
-use Rattle.lot_page_report.specs.Page.{IsPageText, ShowsPage, ShowsPageOfTables, ShowsSomePage, ShowsText, doctype}
+use Rattle.lot_page_report.specs.Page.{AtEntry, AtSale, AtStart, IsPageText, MayStopAt, ShowsPageOfTables, ShowsText, WritesPage, WritesSomePage, doctype}
 use Rattle.lot_page_report.specs.Parts.{ArePartsOf, AreRowsOf, PageOf, Parts, covered_by, days_of, price_day}
-use Rattle.lot_page_report.specs.Sections.{IsTextOf, IsTop, commodities_html, entry_piece, held_html, journal_end, journal_html, no_lots_note, sale_piece, sales_end, sales_html}
+use Rattle.lot_page_report.specs.Sections.{IsTextOf, IsTop, commodities_html, entry_piece, held_html, journal_end, journal_html, no_lots_note, pieces_behind, sale_piece, sales_end, sales_html}
 use Rattle.lot_page_report.specs.Shown.{ListsEntries, ListsEntriesOfTables, ListsSales, ListsSalesOfTables}
 use Rattle.lot_page_report.specs.Text.{days_html, front_html, header_html, header_with, no_sales, part_end, part_front}
 use Rattle.lot_page_report.specs.Top.{HasTop}
@@ -55,6 +57,7 @@ page_text page parts top is =
       balanced = page_balanced page parts (elements_of page top parts.sales parts.listed) whole;
       begins = refl;
       whole = whole;
+      styled = refl;
     }
 
 -- ---- a page that isn't begun
@@ -74,7 +77,11 @@ nothing = record {
   listed = [];
 }
 
-pub unbegun : (page : PageOf) (start : Option (List ℕ)) (fault : ShowFault) → ShowsSomePage page start start (Err fault)
+at_start : (page : PageOf) (parts : Parts) (fault : ShowFault) → MayStopAt page parts [] fault
+at_start page parts (AtWalk fault) = AtStart refl
+at_start page parts (AtRow fault) = tt
+
+pub unbegun : (page : PageOf) (start : Option (List ℕ)) (fault : ShowFault) → WritesSomePage page start start (Err fault)
 unfolding nothing
 unbegun page start fault =
     let years = all_of (part_front (codes "years") (codes "Gains by year") ∷ no_sales ∷ [] ∷ part_end ∷ []) in
@@ -93,6 +100,7 @@ unbegun page start fault =
           are_months = (no_lots_note, refl, refl);
           whole = refl;
         }),
+        at_start page nothing fault,
         Appends-nil start,
       ),
     )
@@ -107,9 +115,9 @@ part_of_line start now text Write (part, (next, rest, is), writes) = (part, next
 
 -- a piece of the text is being written
 cut_in : (page : PageOf) (parts : Parts) (text before piece behind part rest : List ℕ) (start mid now : Option (List ℕ)) (fault : ShowFault)
-    → IsPageText page parts text → text ≡ before ++ (piece ++ behind) → piece ≡ part ++ rest → Appends start mid before → Appends mid now part
-    → ShowsText page parts start now (Err fault)
-cut_in page parts text before piece behind part rest start mid now fault is splits piece_is began wrote =
+    → IsPageText page parts text → text ≡ before ++ (piece ++ behind) → piece ≡ part ++ rest → MayStopAt page parts (before ++ part) fault
+    → Appends start mid before → Appends mid now part → ShowsText page parts start now (Err fault)
+cut_in page parts text before piece behind part rest start mid now fault is splits piece_is stops began wrote =
     let same : text ≡ (before ++ part) ++ (rest ++ behind) =
     splits
     ∙ ap (λ (p : List ℕ). before ++ (p ++ behind)) piece_is
@@ -118,6 +126,7 @@ cut_in page parts text before piece behind part rest start mid now fault is spli
       before ++ part,
       rest ++ behind,
       subst (IsPageText page parts) same is,
+      stops,
       Appends-trans start mid now before part began wrote,
     )
 
@@ -175,29 +184,42 @@ module _ (page : PageOf) (made : PageParts) (top : List ℕ) (has : HasTop page 
 
   module _ (start : Option (List ℕ)) where
     -- the top is being written
-    pub cut_top : (now : Option (List ℕ)) (print : PrintFault) (fault : ShowFault) → WritesLine start now (Err print) (doctype ++ top)
-        → ShowsSomePage page start now (Err fault)
+    pub top_cut : (sold : List NumberedSale) (listed : List EntryRow) (now : Option (List ℕ)) (print : PrintFault) (fault : RowFault)
+        → WritesLine start now (Err print) (doctype ++ top) → ShowsText page (parts_with sold listed) start now (Err (AtRow fault))
     unfolding elements_of
-    cut_top now print fault writes =
+    top_cut sold listed now print fault writes =
         let (part, rest, is, wrote) = part_of_line start now (doctype ++ top) print writes in
-        let behind = all_of (sales_html [] ∷ part_front (codes "journal") (codes "Journal") ∷ journal_html (days_of page) [] ∷ []) in (
-          parts_with [] [],
-          cut_in page (parts_with [] []) (doctype ++ elements_of page top [] []) [] (doctype ++ top) behind part rest start start now fault
-              (page_text page (parts_with [] []) top (top_is [] [])) (sym (append_assoc doctype top behind)) is (Appends-nil start) wrote,
-        )
+        let behind = all_of (sales_html sold ∷ part_front (codes "journal") (codes "Journal") ∷ journal_html (days_of page) listed ∷ []) in
+        cut_in page (parts_with sold listed) (doctype ++ elements_of page top sold listed) [] (doctype ++ top) behind part rest start start now
+        (AtRow fault) (page_text page (parts_with sold listed) top (top_is sold listed)) (sym (append_assoc doctype top behind)) is tt
+        (Appends-nil start) wrote
+
+    pub cut_top : (now : Option (List ℕ)) (print : PrintFault) (fault : RowFault) → WritesLine start now (Err print) (doctype ++ top)
+        → WritesSomePage page start now (Err (AtRow fault))
+    cut_top now print fault writes = (parts_with [] [], top_cut [] [] now print fault writes)
 
     module _ (first : Option (List ℕ)) (began : Appends start first (doctype ++ top)) where
       -- the sales are
-      pub cut_sales : (now : Option (List ℕ)) (fault : ShowFault) → Lists sale_piece sales_end first now (Err fault)
-          → ShowsSomePage page start now (Err fault)
+      pub sales_cut : (sold : List NumberedSale) (listed : List EntryRow) (now : Option (List ℕ)) (fault : ShowFault)
+          → ListsRows sale_piece sales_end sold first now (Err fault) → ShowsText page (parts_with sold listed) start now (Err fault)
       unfolding elements_of
-      cut_sales now fault (sold, part, rest, is, wrote) =
-          let behind = all_of (part_front (codes "journal") (codes "Journal") ∷ journal_html (days_of page) [] ∷ []) in (
-            parts_with sold [],
-            cut_in page (parts_with sold []) (doctype ++ elements_of page top sold []) (doctype ++ top) (sales_html sold) behind part rest start first
-                now fault (page_text page (parts_with sold []) top (top_is sold [])) (sym (append_assoc doctype top (sales_html sold ++ behind))) is
-                began wrote,
-          )
+      sales_cut sold listed now (AtWalk fault) (given, left, is, wrote) =
+          let behind = all_of (part_front (codes "journal") (codes "Journal") ∷ journal_html (days_of page) listed ∷ []) in
+          let part = pieces_behind sale_piece [] given in
+          cut_in page (parts_with sold listed) (doctype ++ elements_of page top sold listed) (doctype ++ top) (sales_html sold) behind part
+          (pieces_behind sale_piece given left ++ sales_end sold) start first now (AtWalk fault)
+          (page_text page (parts_with sold listed) top (top_is sold listed)) (sym (append_assoc doctype top (sales_html sold ++ behind)))
+          (list_split sale_piece sales_end sold given left is)
+          (AtSale top (top_is sold listed) given left is (append_assoc doctype top part)) began wrote
+      sales_cut sold listed now (AtRow fault) (part, rest, is, wrote) =
+          let behind = all_of (part_front (codes "journal") (codes "Journal") ∷ journal_html (days_of page) listed ∷ []) in
+          cut_in page (parts_with sold listed) (doctype ++ elements_of page top sold listed) (doctype ++ top) (sales_html sold) behind part rest
+          start first now (AtRow fault) (page_text page (parts_with sold listed) top (top_is sold listed))
+          (sym (append_assoc doctype top (sales_html sold ++ behind))) is tt began wrote
+
+      pub cut_sales : (now : Option (List ℕ)) (fault : ShowFault) → Lists sale_piece sales_end first now (Err fault)
+          → WritesSomePage page start now (Err fault)
+      cut_sales now fault (sold, lists) = (parts_with sold [], sales_cut sold [] now fault lists)
 
       module _ (sold : List NumberedSale) (second : Option (List ℕ)) (listed_sales : Appends first second (sales_html sold)) where
         written_sales : Appends start second ((doctype ++ top) ++ sales_html sold)
@@ -212,16 +234,21 @@ module _ (page : PageOf) (made : PageParts) (top : List ℕ) (has : HasTop page 
             sym (append_assoc doctype top (sales_html sold ++ behind)) ∙ sym (append_assoc (doctype ++ top) (sales_html sold) behind)
 
         -- the head of the journal is
-        pub cut_front : (now : Option (List ℕ)) (print : PrintFault) (fault : ShowFault)
-            → WritesLine second now (Err print) (part_front (codes "journal") (codes "Journal") ++ []) → ShowsSomePage page start now (Err fault)
+        pub front_cut : (listed : List EntryRow) (now : Option (List ℕ)) (print : PrintFault) (fault : RowFault)
+            → WritesLine second now (Err print) (part_front (codes "journal") (codes "Journal") ++ [])
+            → ShowsText page (parts_with sold listed) start now (Err (AtRow fault))
         unfolding elements_of journal_front
-        cut_front now print fault writes =
-            let (part, rest, is, wrote) = part_of_line second now (journal_front ++ []) print writes in (
-              parts_with sold [],
-              cut_in page (parts_with sold []) (doctype ++ elements_of page top sold []) ((doctype ++ top) ++ sales_html sold) journal_front
-                  (journal_html (days_of page) [] ++ []) part rest start second now fault (page_text page (parts_with sold []) top (top_is sold []))
-                  (fronted []) (sym (append-nil journal_front) ∙ is) written_sales wrote,
-            )
+        front_cut listed now print fault writes =
+            let (part, rest, is, wrote) = part_of_line second now (journal_front ++ []) print writes in
+            cut_in page (parts_with sold listed) (doctype ++ elements_of page top sold listed) ((doctype ++ top) ++ sales_html sold) journal_front
+            (journal_html (days_of page) listed ++ []) part rest start second now (AtRow fault)
+            (page_text page (parts_with sold listed) top (top_is sold listed)) (fronted listed) (sym (append-nil journal_front) ∙ is) tt
+            written_sales wrote
+
+        pub cut_front : (now : Option (List ℕ)) (print : PrintFault) (fault : RowFault)
+            → WritesLine second now (Err print) (part_front (codes "journal") (codes "Journal") ++ [])
+            → WritesSomePage page start now (Err (AtRow fault))
+        cut_front now print fault writes = (parts_with sold [], front_cut [] now print fault writes)
 
         module _ (third : Option (List ℕ)) (headed : Appends second third (part_front (codes "journal") (codes "Journal") ++ [])) where
           written_front : Appends start third (((doctype ++ top) ++ sales_html sold) ++ journal_front)
@@ -237,22 +264,32 @@ module _ (page : PageOf) (made : PageParts) (top : List ℕ) (has : HasTop page 
               fronted listed
               ∙ sym (append_assoc ((doctype ++ top) ++ sales_html sold) journal_front (journal_html (days_of page) listed ++ []))
 
-          -- the entries are
-          pub cut_entries : (now : Option (List ℕ)) (fault : ShowFault)
-              → Lists (entry_piece (days_of page)) (journal_end (days_of page)) third now (Err fault) → ShowsSomePage page start now (Err fault)
-          unfolding elements_of journal_front
-          cut_entries now fault (listed, part, rest, is, wrote) = (
-            parts_with sold listed,
-            cut_in page (parts_with sold listed) (doctype ++ elements_of page top sold listed)
-                (((doctype ++ top) ++ sales_html sold) ++ journal_front) (journal_html (days_of page) listed) [] part rest start third now fault
-                (page_text page (parts_with sold listed) top (top_is sold listed)) (parted listed) is written_front wrote,
-          )
+          -- the text up to some entry
+          to_entry : (part : List ℕ)
+              → (((doctype ++ top) ++ sales_html sold) ++ journal_front) ++ part ≡ doctype ++ (top ++ (sales_html sold ++ (journal_front ++ part)))
+          to_entry part =
+              append_assoc ((doctype ++ top) ++ sales_html sold) journal_front part
+              ∙ append_assoc (doctype ++ top) (sales_html sold) (journal_front ++ part)
+              ∙ append_assoc doctype top (sales_html sold ++ (journal_front ++ part))
 
-          -- all of it is written
-          pub whole_page : (now : Option (List ℕ)) (done : Unit {0}) (listed : List EntryRow)
-              → Appends third now (journal_html (days_of page) listed) → ShowsText page (parts_with sold listed) start now (Ok done)
+          -- the entries are, or all of it is written
+          pub with_entries : (listed : List EntryRow) (now : Option (List ℕ)) (result : Result (Unit {0}) ShowFault)
+              → ListsRows (entry_piece (days_of page)) (journal_end (days_of page)) listed third now result
+              → ShowsText page (parts_with sold listed) start now result
           unfolding elements_of journal_front
-          whole_page now done listed wrote = (
+          with_entries listed now (Err (AtWalk fault)) (given, left, is, wrote) =
+              let part = pieces_behind (entry_piece (days_of page)) [] given in
+              cut_in page (parts_with sold listed) (doctype ++ elements_of page top sold listed)
+              (((doctype ++ top) ++ sales_html sold) ++ journal_front) (journal_html (days_of page) listed) [] part
+              (pieces_behind (entry_piece (days_of page)) given left ++ journal_end (days_of page) listed) start third now (AtWalk fault)
+              (page_text page (parts_with sold listed) top (top_is sold listed)) (parted listed)
+              (list_split (entry_piece (days_of page)) (journal_end (days_of page)) listed given left is)
+              (AtEntry top (top_is sold listed) given left is (to_entry part)) written_front wrote
+          with_entries listed now (Err (AtRow fault)) (part, rest, is, wrote) =
+              cut_in page (parts_with sold listed) (doctype ++ elements_of page top sold listed)
+              (((doctype ++ top) ++ sales_html sold) ++ journal_front) (journal_html (days_of page) listed) [] part rest start third now
+              (AtRow fault) (page_text page (parts_with sold listed) top (top_is sold listed)) (parted listed) is tt written_front wrote
+          with_entries listed now (Ok done) wrote = (
             doctype ++ elements_of page top sold listed,
             page_text page (parts_with sold listed) top (top_is sold listed),
             subst (Appends start now)
@@ -264,14 +301,13 @@ module _ (page : PageOf) (made : PageParts) (top : List ℕ) (has : HasTop page 
           )
 
           pub shows_some : (now : Option (List ℕ)) (result : Result (Unit {0}) ShowFault)
-              → Lists (entry_piece (days_of page)) (journal_end (days_of page)) third now result → ShowsSomePage page start now result
-          shows_some now (Ok done) (listed, wrote) = (parts_with sold listed, whole_page now done listed wrote)
-          shows_some now (Err fault) lists = cut_entries now fault lists
+              → Lists (entry_piece (days_of page)) (journal_end (days_of page)) third now result → WritesSomePage page start now result
+          shows_some now result (listed, lists) = (parts_with sold listed, with_entries listed now result lists)
 
--- where a fault ends it, that it is some page is all that is said of the book
-pub cut_of_book : (page : PageOf) (place : ℕ) (entries : List Entry) (start now : Option (List ℕ)) (fault : ShowFault)
-    → ShowsSomePage page start now (Err fault) → ShowsPage page place entries start now (Err fault)
-cut_of_book page place entries start now fault (parts, shows) = (parts, tt, shows)
+-- nothing is written
+pub none_of_book : (page : PageOf) (place : ℕ) (entries : List Entry) (start : Option (List ℕ)) (fault : ShowFault)
+    → WritesPage page place entries start start (Err fault)
+none_of_book page place entries start fault = inl (Appends-nil start)
 
 -- no call of the writer was made
 pub unwritten_cause : (fault : ShowFault) (calls : WritesMade) → is_of_writer fault ≡ false → NoneFailed calls.before calls.after
@@ -324,6 +360,7 @@ module _ (page : PageOf) (made : PageParts) (top : List ℕ) (has : HasTop page 
       let rows = has.are_gains.rows (map sale_in book.sold) book.sales in
       record {
         entries = refl;
+        digest = book.digest;
         summed = book.sold;
         are_summed = book.are_sold;
         years = rows.years;
@@ -342,25 +379,52 @@ module _ (page : PageOf) (made : PageParts) (top : List ℕ) (has : HasTop page 
         listed = refl;
       }
 
+  -- of the book a prefix of the top is written, or the top and a prefix of its sales, or these and a prefix of what follows
+  module _ (place : ℕ) (entries : List Entry) (book : IsPageOfBook page place entries made) (start : Option (List ℕ)) where
+    of_book : (sold : List NumberedSale) → AreSalesWithin (days_of page) entries sold → (now : Option (List ℕ)) (result : Result (Unit {0}) ShowFault)
+        → ShowsText page (parts_with page made top has (entry_rows 1 entries) book.counted sold (entry_rows 1 entries)) start now result
+        → WritesPage page place entries start now result
+    of_book sold are now (Ok done) shows =
+        (parts_with page made top has (entry_rows 1 entries) book.counted sold (entry_rows 1 entries), are_parts place entries book sold are, shows)
+    of_book sold are now (Err fault) shows =
+        inr (parts_with page made top has (entry_rows 1 entries) book.counted sold (entry_rows 1 entries), are_parts place entries book sold are, shows)
+
+    pub top_of_book : (now : Option (List ℕ)) (print : PrintFault) (fault : RowFault) → WritesLine start now (Err print) (doctype ++ top)
+        → WritesPage page place entries start now (Err (AtRow fault))
+    top_of_book now print fault writes =
+        of_book book.sold book.are_sold now (Err (AtRow fault))
+        (top_cut page made top has (entry_rows 1 entries) book.counted start book.sold (entry_rows 1 entries) now print fault writes)
+
+    module _ (first : Option (List ℕ)) (began : Appends start first (doctype ++ top)) where
+      pub sales_of_book : (now : Option (List ℕ)) (fault : ShowFault) → ListsSales (days_of page) entries first now (Err fault)
+          → WritesPage page place entries start now (Err fault)
+      sales_of_book now fault (sold, are, lists) =
+          of_book sold are now (Err fault)
+          (sales_cut page made top has (entry_rows 1 entries) book.counted start first began sold (entry_rows 1 entries) now fault lists)
+
+      module _ (second : Option (List ℕ)) (done : Unit {0}) (sales : ListsSales (days_of page) entries first second (Ok done)) where
+        pub front_of_book : (now : Option (List ℕ)) (print : PrintFault) (fault : RowFault)
+            → WritesLine second now (Err print) (part_front (codes "journal") (codes "Journal") ++ [])
+            → WritesPage page place entries start now (Err (AtRow fault))
+        front_of_book now print fault writes =
+            of_book sales.0 sales.1 now (Err (AtRow fault))
+            (front_cut page made top has (entry_rows 1 entries) book.counted start first began sales.0 second sales.2 (entry_rows 1 entries) now print fault writes)
+
+        pub entries_of_book : (third now : Option (List ℕ)) → Appends second third (part_front (codes "journal") (codes "Journal") ++ [])
+            → (result : Result (Unit {0}) ShowFault) → ListsEntries (days_of page) entries third now result
+            → WritesPage page place entries start now result
+        entries_of_book third now headed result lists =
+            of_book sales.0 sales.1 now result
+            (with_entries page made top has (entry_rows 1 entries) book.counted start first began sales.0 second sales.2 third headed (entry_rows 1 entries) now result lists)
+
   module _ (start first second third now : Option (List ℕ)) (began : Appends start first (doctype ++ top))
       (headed : Appends second third (part_front (codes "journal") (codes "Journal") ++ [])) where
-    pub shows_book : (place : ℕ) (entries : List Entry) (result : Result (Unit {0}) ShowFault) → IsPageOfBook page place entries made
-        → ListsSales (days_of page) entries first second → OnOk result (ListsEntries (days_of page) entries third now)
-        → ShowsSomePage page start now result → ShowsPage page place entries start now result
-    shows_book place entries (Ok done) book (sold, are, wrote) listed some = (
-      parts_with page made top has (entry_rows 1 entries) book.counted sold (entry_rows 1 entries),
-      are_parts place entries book sold are,
-      whole_page page made top has (entry_rows 1 entries) book.counted start first began sold second wrote third headed now done
-          (entry_rows 1 entries) listed,
-    )
-    shows_book place entries (Err fault) book sales listed some = cut_of_book page place entries start now fault some
-
     pub shows_tables : (tables : Tables) (result : Result (Unit {0}) ShowFault) → IsPageOfTables page tables made
         → ListsSalesOfTables (days_of page) tables first second → OnOk result (ListsEntriesOfTables (days_of page) tables third now)
         → ShowsPageOfTables page tables start now result
     shows_tables tables (Ok done) book (sold, are, legs, wrote) listed = (
       parts_with page made top has tables.entry book.counted sold tables.entry,
       row_parts tables book sold are legs,
-      whole_page page made top has tables.entry book.counted start first began sold second wrote third headed now done tables.entry listed,
+      with_entries page made top has tables.entry book.counted start first began sold second wrote third headed tables.entry now (Ok done) listed,
     )
     shows_tables tables (Err fault) book sales listed = tt

@@ -1,15 +1,15 @@
 -- What takes rows takes one more.
 use Rattle.std.specs.Prelude.{◌&&◌, ◌||◌, Bool, false, true, IfErr, IsTrue, OnOk, not, Result, Ok, Err}
-use Rattle.std.proofs.Common.{◌≡◌, List, [], ◌∷◌, ◌++◌, Option, None, Some, refl, sym}
+use Rattle.std.proofs.Common.{◌≡◌, ◌∙◌, List, [], ◌∷◌, ◌++◌, Option, None, Some, ap, append-nil, append_assoc, refl, sym}
 use Rattle.std.proofs.lemmas.Bool.{true≢false}
 use Rattle.lot_legs.specs.declared.leg.DatedLeg.{DatedLeg}
-use Rattle.lot_months.specs.Lots.{HasFlows}
+use Rattle.lot_months.specs.Lots.{HasFlows, HasTooMuch}
 use Rattle.lot_months.specs.declared.flows.MonthFlows.{MonthFlows}
 use Rattle.lot_months.specs.declared.range.MonthRange.{MonthRange}
 use Rattle.lot_report.specs.declared.fault.ReportFault.{ReportFault}
 use Rattle.lot_report.specs.declared.fault.ReportFault.TheVariants.{Memory, Range, Write}
 use Rattle.lot_tally.specs.Rows.{Adds}
-use Rattle.lot_page_report.specs.Read.{FlowsOf}
+use Rattle.lot_page_report.specs.Read.{FlowsOf, MoveTooMuch}
 
 -- memory ended
 pub memory_adds : (fits : Bool) (IsAdded : Type 0) (fault : ReportFault) → fault ≡ Memory → Adds fits IsAdded (Err fault)
@@ -40,6 +40,26 @@ pub flows_some : (leg : DatedLeg) (old new : MonthFlows)
     → (range : Option MonthRange) (legs : List DatedLeg) → FlowsOf range legs (Some old) → FlowsOf range (legs ++ leg ∷ []) (Some new)
 flows_some leg old new added None legs flows = flows
 flows_some leg old new added (Some range) legs flows = added range legs flows
+
+-- a sum of some leg more has left its range
+pub moved_out : (leg : DatedLeg) (old : MonthFlows)
+    → ((range : MonthRange) (legs : List DatedLeg) → HasFlows range legs old → HasTooMuch range (legs ++ leg ∷ []))
+    → (range : Option MonthRange) (legs : List DatedLeg) → FlowsOf range legs (Some old) → MoveTooMuch range (legs ++ leg ∷ [])
+moved_out leg old out None legs flows = flows
+moved_out leg old out (Some range) legs flows = (legs ++ leg ∷ [], [], sym (append-nil (legs ++ leg ∷ [])), out range legs flows)
+
+-- it is so with more legs
+out_more : (range : Option MonthRange) (legs : List DatedLeg) (leg : DatedLeg) → MoveTooMuch range legs → MoveTooMuch range (legs ++ leg ∷ [])
+out_more None legs leg out = out
+out_more (Some range) legs leg (given, rest, split, out) =
+    (given, rest ++ leg ∷ [], ap (λ (ls : List DatedLeg). ls ++ leg ∷ []) split ∙ append_assoc given rest (leg ∷ []), out)
+
+pub some_out : (range : Option MonthRange) (legs : List DatedLeg) (leg : DatedLeg) (is_out fits : Bool) → (is_out || not fits) ≡ true
+    → (is_out ≡ true → MoveTooMuch range legs) → (is_out ≡ false → fits ≡ false → MoveTooMuch range (legs ++ leg ∷ []))
+    → MoveTooMuch range (legs ++ leg ∷ [])
+some_out range legs leg true fits is before here = out_more range legs leg (before refl)
+some_out range legs leg false false is before here = here refl refl
+some_out range legs leg false true is before here = absurd (true≢false (sym is))
 
 -- no sum has left its range
 pub none_out : (is_out fits : Bool) → (is_out || not fits) ≡ false → (is_out ≡ false) × (fits ≡ true)

@@ -3,6 +3,7 @@ pub mod Held
 pub mod List
 pub mod Listed
 pub mod Made
+pub mod OutOfRange
 pub mod Page
 pub mod Parts
 pub mod Read

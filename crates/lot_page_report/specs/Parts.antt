@@ -30,7 +30,8 @@ use Rattle.lot_report.specs.declared.lot.Valuation.{Valuation}
 use Rattle.lot_rows.specs.Tables.{Tables}
 use Rattle.lot_rows.specs.declared.entry.EntryRow.{EntryRow}
 use Rattle.lot_rows.specs.declared.price.PriceRow.{PriceRow}
-use Rattle.lot_store.specs.Extent.{extent_of}
+use Rattle.lot_store.specs.Extent.{IsExtent, extent_of}
+use Rattle.lot_store.specs.declared.extent.Extent.{Extent}
 use Rattle.lot_stored.specs.Rows.{entry_rows}
 use Rattle.lot_tally.specs.Lots.{RowKey, all_lots}
 use Rattle.lot_tally.specs.Rows.{AreRows}
@@ -145,6 +146,12 @@ abbrev pub digest_for : Heading → BookDigest → Option BookDigest
 digest_for Entries digest = None
 digest_for Digest digest = Some digest
 
+-- the same of tables, whatever those stand for: that of their rows of entries, and of how far they say that the book goes
+abbrev pub IsDigestFor : Heading → Tables → Option BookDigest → Type 0
+IsDigestFor Entries tables digest = digest ≡ None
+IsDigestFor Digest tables digest =
+    (extent : Extent) × IsExtent extent tables × (digest ≡ Some (digest_of extent tables.entry))
+
 -- what the sales gained by these keys
 abbrev pub AreGains : List GainKey → List NumberedSale → List (RowKey × RowSums) → Type 0
 AreGains by sales rows = AreRows (all_lots by Csv (map sale_in sales)) rows
@@ -206,6 +213,7 @@ pub record ArePartsOf (page : PageOf) (place : ℕ) (entries : List Entry) (part
 -- these are the rows of tables, whatever those stand for
 pub record AreRowsOf (page : PageOf) (tables : Tables) (parts : Parts) : Type 0 where
   pub entries : parts.entries ≡ tables.entry
+  pub digest : IsDigestFor page.heading tables parts.digest
   pub summed : List NumberedSale
   pub are_summed : AreAllSaleRows (days_of page) tables summed
   pub years : AreGains (key.Year ∷ []) summed parts.years

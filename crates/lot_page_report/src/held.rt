@@ -1,15 +1,18 @@
 //! What is held at the end of the last day, by account.
 
-ghost use Rattle.std.specs.Prelude.{◌≡◌, ◌≢◌, ◌++◌, None, IfErr, IfOk, OnOk, Some, flat_map, unwrap_or};
+ghost use Rattle.std.specs.Prelude.{◌≡◌, ◌≢◌, ◌++◌, Err, None, IfErr, IfOk, IsTrue, OnOk, Some, flat_map, map, not, unwrap_or};
 ghost use Rattle.std.specs.BTreeMap.{IsOrdered, get};
 ghost use Rattle.std.specs.Option.{option_copied};
 ghost use Rattle.std.specs.String.{string_bytes};
 ghost use Rattle.lot_base.specs.Text.{text_cmp};
-ghost use Rattle.lot_page_report.specs.Held.{IsHeld, Totalled};
+ghost use Rattle.lot_book_report.specs.Holdings.{valued_with};
+ghost use Rattle.lot_cells.specs.Holdings.{has_room};
+ghost use Rattle.lot_cost.specs.declared.lot_key.LotKey.{LotKey as LotKeyOf};
+ghost use Rattle.lot_page_report.specs.Held.{IsHeld, Totalled, TotalsLeaveRange};
 ghost use Rattle.lot_page_report.specs.Parts.{no_lots, page_in};
 ghost use Rattle.lot_page_report.specs.Sections.{account_front, has_values, held_html, held_inner, held_table, is_unpriced, lot_total, row_html, rows_behind, shares_if_any, totals_of, unpriced_in, unpriced_note};
 ghost use Rattle.lot_page_report.specs.Text.{at_prices, day_behind, of_day, when_html};
-ghost use Rattle.lot_report.specs.declared.fault.ReportFault.TheVariants.{Write};
+ghost use Rattle.lot_report.specs.declared.fault.ReportFault.TheVariants.{Range, Write};
 
 use crate::head::push_grouped_count;
 use crate::scope::PageScope;
@@ -42,6 +45,8 @@ pub(crate) fn held_of(
 ) -> Result<Held, ReportFault>
     ensures held { IfOk result (λ held. IsHeld (Some prices.now) holdings.items held) }
     ensures cause { IfErr result (λ fault. fault ≢ Write) }
+    ensures range { result ≡ Err Range
+        → TotalsLeaveRange (map (valued_with (Some prices.now)) holdings.items) }
 {
     let mut rows = Vec::new(alloc);
     let mut totals: Totals = BTreeMap::new(alloc);
@@ -53,12 +58,16 @@ pub(crate) fn held_of(
     Ok(Held { rows, totals })
 }
 
-/// Adds a holding to the totals, where it is of a lot.
+/// Adds a holding to the totals, where it is of a lot. The error is `Range`, where a sum leaves its
+/// range, or `Memory`.
 fn add_lot(totals: &mut Totals, row: &ValuedHolding) -> Result<(), ReportFault>
     ensures adds { OnOk result (Totalled row.now totals.old totals.new) }
     ensures ordered { OnOk result (IsOrdered text_cmp totals.old
         → IsOrdered text_cmp totals.new) }
     ensures cause { IfErr result (λ fault. fault ≢ Write) }
+    ensures range { result ≡ Err Range → (lot : LotKeyOf) × (row.now.holding.lot ≡ Some lot)
+        × IsTrue (not (has_room (unwrap_or (get text_cmp totals.old lot.currency) no_lots)
+        lot row.now.holding.units row.now.valuation)) }
 {
     let Some(lot) = &row.holding.lot else {
         return Ok(());

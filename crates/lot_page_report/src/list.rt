@@ -1,15 +1,18 @@
 //! The rows of a walk are written one after another, each as it is read.
 
-ghost use Rattle.std.specs.Prelude.{◌≡◌, ◌∷◌, ◌++◌, [], IfErr, IfOk, List, OnErr, OnOk, map, ℕ};
+ghost use Rattle.std.specs.Prelude.{◌≡◌, ◌≢◌, ◌∷◌, ◌++◌, [], Err, IfErr, IfOk, List, OnErr, OnOk, map, ℕ};
 ghost use Rattle.std.specs.Io.KnownBytes.{Appends};
 ghost use Rattle.std.specs.String.{string_bytes};
 ghost use Rattle.lot_book.specs.Facts.{Entry};
 ghost use Rattle.lot_book_report.specs.Csv.{AreGood};
 ghost use Rattle.lot_book_report.specs.Fault.{HasCause};
 ghost use Rattle.lot_book_report.specs.Show.{ReadsBook};
+ghost use Rattle.lot_book_report.specs.declared.fault.ShowFault.TheVariants.{Row as AtRow};
 ghost use Rattle.lot_io.specs.Writes.{HasFailed, NoneFailed, writes_between};
-ghost use Rattle.lot_page_report.specs.List.{Lists, list_text};
+ghost use Rattle.lot_page_report.specs.List.{Lists, ListsRows, list_text};
 ghost use Rattle.lot_report.specs.Written.{WritesLine};
+ghost use Rattle.lot_report.specs.declared.fault.ReportFault.TheVariants.{Range};
+ghost use Rattle.lot_report.specs.declared.fault.RowFault.TheVariants.{Report};
 ghost use Rattle.lot_rows.specs.Tables.{Tables};
 ghost use Rattle.lot_store.specs.Walk.{HasGiven, HasGivenRows};
 ghost use Rattle.lot_store.specs.declared.walk.Stage.TheVariants.{Going};
@@ -59,9 +62,9 @@ pub(crate) trait Listing<Row> {
 /// Writes the texts of all rows of a walk, which stands before its first one, and what stands
 /// behind them. Nothing is flushed.
 ///
-/// Where the book stops, memory ends or the writer fails, a prefix of the text of some rows is
-/// written. In the contract rows are what the walk tells of them, and `tell` is what the list is
-/// told of that.
+/// Where the book stops or memory ends, the texts of some first rows are written, each whole. Where
+/// the writer fails, a prefix of all of it is. Of a book that is the text of all its rows. In the
+/// contract rows are what the walk tells of them, and `tell` is what the list is told of that.
 pub(crate) fn write_list<S: Alter, P: Place, L: Listing<P::Row>, W: CountedWrite>(
     walk: &mut Walk<'_, S, P>,
     list: &mut L,
@@ -78,9 +81,9 @@ pub(crate) fn write_list<S: Alter, P: Place, L: Listing<P::Row>, W: CountedWrite
         → HasCleanDisk (state S.Store walk.new.book.now.conn)
         → (asked : P.Place.Asked) (entries : List Entry)
         → HasGiven S.Store P.Place.AreAll P.Place.IsBehind walk.old asked entries []
-        → OnOk result ((all : List P.Place.Shown) × P.Place.AreAll asked entries all
-        × Appends (W.contents writer.old) (W.contents writer.new)
-        (list_text (L.Listing.piece terms) (L.Listing.end_of terms) (map tell all))) }
+        → (all : List P.Place.Shown) × P.Place.AreAll asked entries all
+        × ListsRows (L.Listing.piece terms) (L.Listing.end_of terms) (map tell all)
+        (W.contents writer.old) (W.contents writer.new) result }
     ensures some { (terms : L.Listing.Terms) → L.Listing.HasListed terms [] list.old
         → Lists (L.Listing.piece terms) (L.Listing.end_of terms)
         (W.contents writer.old) (W.contents writer.new) result }
@@ -94,6 +97,7 @@ pub(crate) fn write_list<S: Alter, P: Place, L: Listing<P::Row>, W: CountedWrite
         × AreGood P.Place.shown P.Place.IsGood all
         × Appends (W.contents writer.old) (W.contents writer.new)
         (list_text (L.Listing.piece terms) (L.Listing.end_of terms) (map tell all))) }
+    ensures in_range { result ≢ Err (AtRow (Report Range)) }
     ensures reads { ReadsBook S.Store walk.old.book.now walk.new.book.now result }
     ensures cause { HasCause result (writes_between (W.calls writer.old) (W.calls writer.new)) }
 {

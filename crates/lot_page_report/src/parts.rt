@@ -1,12 +1,13 @@
 //! What a page is made of, but for the lists that are written as they are read.
 
-ghost use Rattle.std.specs.Prelude.{◌≡◌, ◌≢◌, IfErr, IfOk, List, Some, map};
+ghost use Rattle.std.specs.Prelude.{◌≡◌, ◌≢◌, Err, IfErr, IfOk, List, Some, map};
 ghost use Rattle.lot_book_report.specs.Fault.{is_of_writer};
 ghost use Rattle.lot_page_report.specs.Counted.{days_in};
-ghost use Rattle.lot_page_report.specs.Made.{AreLotRows, AreLots, AreLotsOf, AreMonthsOf, IsPageOfBook, IsPageOfTables, IsSomePage};
+ghost use Rattle.lot_page_report.specs.Made.{AreLotRows, AreLots, AreLotsOf, AreMonthsOf, IsPageOfBook, IsPageOfTables, IsSomePage, LotsLeaveRange, MonthsLeaveRange};
+ghost use Rattle.lot_page_report.specs.OutOfRange.{PageLeavesRange};
 ghost use Rattle.lot_page_report.specs.Parts.{IsRangeFor, covered, page_in};
 ghost use Rattle.lot_page_report.specs.Read.{Reads};
-ghost use Rattle.lot_report.specs.declared.fault.ReportFault.TheVariants.{Write};
+ghost use Rattle.lot_report.specs.declared.fault.ReportFault.TheVariants.{Range, Write};
 ghost use Rattle.lot_stored.specs.Rows.{entry_rows};
 
 use crate::counted::{Counted, Days};
@@ -39,15 +40,16 @@ pub(crate) struct PageParts {
     pub lots: Lots,
 }
 
-/// Reads what a page is made of. Nothing is written. The fault is one of the book, or of a sum that
-/// leaves its range, or of memory.
+/// Reads what a page is made of. Nothing is written. The fault is one of the book, or of memory, or
+/// `Range` of the report where a sum leaves its range.
 pub(crate) fn read_parts<S: Alter>(
     alloc: Global,
     book: &mut Book<S>,
     scope: &PageScope<'_>,
 ) -> Result<PageParts, ShowFault>
     ensures { Reads S.Store book.old book.new (IsPageOfBook (page_in scope.now))
-        (IsPageOfTables (page_in scope.now)) (IsSomePage (page_in scope.now)) result }
+        (IsPageOfTables (page_in scope.now)) (IsSomePage (page_in scope.now))
+        (PageLeavesRange (page_in scope.now)) result }
 {
     let counted = read_entries(book, scope.first, scope.last)?;
     let digest = read_digest(book, scope.heading)?;
@@ -75,7 +77,9 @@ fn read_lots<S: Alter>(
         → AreLots (page_in scope.now) entries lots)
         (λ tables lots. IsRangeFor (covered (page_in scope.now) tables.entry) range.now
         → AreLotRows (page_in scope.now) tables lots)
-        (λ lots. Unit {0}) result }
+        (λ lots. Unit {0})
+        (λ entries. IsRangeFor (covered (page_in scope.now) (entry_rows 1 entries)) range.now
+        → PageLeavesRange (page_in scope.now) entries) result }
 {
     let prices = DayPrices::read(alloc, book, scope.price_day())?;
     let quotes = read_quotes(alloc, book, *range)?;
@@ -107,6 +111,7 @@ fn lots_of(
 ) -> Result<Lots, ReportFault>
     ensures lots { IfOk result (λ lots. AreLotsOf range legs quotes prices lots) }
     ensures cause { IfErr result (λ fault. fault ≢ Write) }
+    ensures range { result ≡ Err Range → LotsLeaveRange legs quotes prices }
 {
     let LegTally {
         positions,
@@ -123,7 +128,8 @@ fn lots_of(
     })
 }
 
-/// Returns what lots come to at the end of each month, where there are months.
+/// Returns what lots come to at the end of each month, where there are months. The error is
+/// `Range`, where a sum leaves its range, or `Memory`.
 fn months_of(
     alloc: Global,
     flows: &Option<MonthFlows>,
@@ -131,6 +137,7 @@ fn months_of(
 ) -> Result<Vec<CurrencyMonths>, ReportFault>
     ensures months { IfOk result (λ all. AreMonthsOf flows.now prices.now all.items) }
     ensures cause { IfErr result (λ fault. fault ≢ Write) }
+    ensures range { result ≡ Err Range → MonthsLeaveRange flows.now prices.now }
 {
     match (flows, prices) {
         (Some(flows), Some(prices)) => currency_months(alloc, flows, prices),

@@ -1,6 +1,6 @@
 //! What is read of a book before its page is written.
 
-ghost use Rattle.std.specs.Prelude.{◌≡◌, ◌≢◌, ◌||◌, ◌∷◌, ◌++◌, [], IfErr, IfOk, List, Option, map, not, true};
+ghost use Rattle.std.specs.Prelude.{◌≡◌, ◌≢◌, ◌||◌, ◌∷◌, ◌++◌, [], IfErr, IfOk, List, Option, false, map, not, true};
 ghost use Rattle.lot_book.specs.Sale.{SaleParts};
 ghost use Rattle.lot_book_report.specs.Dump.{digest_of};
 ghost use Rattle.lot_book_report.specs.Gains.{sale_in};
@@ -9,8 +9,8 @@ ghost use Rattle.lot_legs.specs.declared.leg.DatedLeg.{DatedLeg as DatedLegOf};
 ghost use Rattle.lot_months.specs.Prices.{HasPrices};
 ghost use Rattle.lot_months.specs.declared.range.MonthRange.{MonthRange as MonthRangeOf};
 ghost use Rattle.lot_page_report.specs.Counted.{HasCounted};
-ghost use Rattle.lot_page_report.specs.Parts.{digest_for};
-ghost use Rattle.lot_page_report.specs.Read.{Asked, FlowsOf, HasAllLegs, HasLegs, HasQuotes, HasSales, PricesOf, Reads, all_fit};
+ghost use Rattle.lot_page_report.specs.Parts.{IsDigestFor, digest_for};
+ghost use Rattle.lot_page_report.specs.Read.{Asked, FlowsOf, HasAllLegs, HasLegs, HasQuotes, HasSales, MoveTooMuch, PricesOf, Reads, all_fit};
 ghost use Rattle.lot_quote.specs.Quotes.{AreQuoteRows, AreQuotes};
 ghost use Rattle.lot_report.specs.declared.fault.ReportFault.TheVariants.{Memory};
 ghost use Rattle.lot_rows.specs.declared.entry.EntryRow.{EntryRow as EntryRowOf};
@@ -18,6 +18,7 @@ ghost use Rattle.lot_rows.specs.declared.price.PriceRow.{PriceRow as PriceRowOf}
 ghost use Rattle.lot_store.specs.Extent.{extent_of};
 ghost use Rattle.lot_store.specs.declared.book.Condition.TheVariants.{NeedsReopen};
 ghost use Rattle.lot_stored.specs.Rows.{entry_rows};
+ghost use Rattle.lot_sums.specs.Gather.{HasUnfit};
 ghost use Rattle.lot_walk.specs.Gains.{AreAllSaleRows, AreSalesWithin};
 ghost use Rattle.lot_walk.specs.declared.gains.NumberedSale.{NumberedSale as NumberedSaleOf};
 
@@ -45,7 +46,8 @@ pub(crate) fn read_digest<S: Alter>(
     ensures { book.old.condition ≢ NeedsReopen → Reads S.Store book.old book.new
         (λ place entries digest. digest
         ≡ digest_for heading (digest_of (extent_of place entries) (entry_rows 1 entries)))
-        (λ tables digest. Unit {0}) (λ digest. Unit {0}) result }
+        (λ tables digest. IsDigestFor heading tables digest) (λ digest. Unit {0})
+        (λ entries. ⊥) result }
 {
     match heading {
         Heading::Entries => Ok(None),
@@ -62,7 +64,8 @@ pub(crate) fn read_entries<S: Alter>(
     ensures { Reads S.Store book.old book.new
         (λ place entries counted. HasCounted (first, last) (entry_rows 1 entries) counted)
         (λ tables counted. HasCounted (first, last) tables.entry counted)
-        (λ counted. (rows : List EntryRowOf) × HasCounted (first, last) rows counted) result }
+        (λ counted. (rows : List EntryRowOf) × HasCounted (first, last) rows counted)
+        (λ entries. ⊥) result }
 {
     let mut counted = Counted::new(first, last);
     let mut walk = book.journal();
@@ -119,7 +122,7 @@ impl Tally<NumberedSale> for SalesTally<'_> {
     }
 }
 
-/// Adds the sales of a range up.
+/// Adds the sales of a range up. The fault is `Range` of the report where a sum leaves its range.
 pub(crate) fn read_sales<S: Alter>(
     alloc: Global,
     book: &mut Book<S>,
@@ -131,7 +134,9 @@ pub(crate) fn read_sales<S: Alter>(
         × AreSalesWithin (first, last) entries sales × HasSales tt (map sale_in sales) tally)
         (λ tables tally. (sales : List NumberedSaleOf)
         × AreAllSaleRows (first, last) tables sales × HasSales tt (map sale_in sales) tally)
-        (λ tally. Unit {0}) result }
+        (λ tally. Unit {0})
+        (λ entries. (sales : List NumberedSaleOf) × AreSalesWithin (first, last) entries sales
+        × HasUnfit (all_fit tt) (map sale_in sales)) result }
 {
     let mut tally = SalesTally::new(alloc);
     let mut walk = book.gains(first, last);
@@ -206,6 +211,9 @@ fn add_flow(flows: &mut Option<MonthFlows>, leg: &DatedLeg) -> Result<bool, Repo
     ensures adds { IfOk result (λ fits. fits ≡ true
         → (range : Option MonthRangeOf) (legs : List DatedLegOf) → FlowsOf range legs flows.old
         → FlowsOf range (legs ++ leg.now ∷ []) flows.new) }
+    ensures out { IfOk result (λ fits. fits ≡ false
+        → (range : Option MonthRangeOf) (legs : List DatedLegOf) → FlowsOf range legs flows.old
+        → MoveTooMuch range (legs ++ leg.now ∷ [])) }
     ensures cause { IfErr result (λ fault. fault ≡ Memory) }
 {
     let Some(flows) = flows else {
@@ -229,7 +237,8 @@ pub(crate) fn read_legs<S: Alter>(
         (λ place entries tally. HasAllLegs (day, range) (dated_legs entries) tally)
         (λ tables tally. (legs : List DatedLegOf) × AreAllLegRows tt tables legs
         × HasAllLegs (day, range) legs tally)
-        (λ tally. (legs : List DatedLegOf) × HasAllLegs (day, range) legs tally) result }
+        (λ tally. (legs : List DatedLegOf) × HasAllLegs (day, range) legs tally)
+        (λ entries. MoveTooMuch range (dated_legs entries)) result }
 {
     let mut tally = LegTally::new(alloc, day, range);
     let mut walk = book.legs();
@@ -276,7 +285,8 @@ pub(crate) fn read_quotes<S: Alter>(
         × PricesOf range quotes prices)
         (λ tables prices. (quotes : List PriceRowOf) × AreQuoteRows tt tables quotes
         × PricesOf range quotes prices)
-        (λ prices. (quotes : List PriceRowOf) × PricesOf range quotes prices) result }
+        (λ prices. (quotes : List PriceRowOf) × PricesOf range quotes prices)
+        (λ entries. ⊥) result }
 {
     match range {
         Some(range) => Ok(Some(read_some_quotes(alloc, book, range)?)),
@@ -295,7 +305,8 @@ fn read_some_quotes<S: Alter>(
         × HasPrices range quotes prices)
         (λ tables prices. (quotes : List PriceRowOf) × AreQuoteRows tt tables quotes
         × HasPrices range quotes prices)
-        (λ prices. (quotes : List PriceRowOf) × HasPrices range quotes prices) result }
+        (λ prices. (quotes : List PriceRowOf) × HasPrices range quotes prices)
+        (λ entries. ⊥) result }
 {
     let mut tally = QuoteTally {
         prices: MonthPrices::new(alloc, range),

@@ -1,13 +1,16 @@
-ghost use Rattle.std.specs.Prelude.{◌≡◌, ◌++◌, OnOk};
+ghost use Rattle.std.specs.Prelude.{◌≢◌, Err, OnOk};
 ghost use Rattle.lot_book_report.specs.Dump.{HoldsOfPlacedBook};
 ghost use Rattle.lot_book_report.specs.Fault.{HasCause};
 ghost use Rattle.lot_book_report.specs.Show.{HoldsOfBook, HoldsOfTables, ReadsBook};
+ghost use Rattle.lot_book_report.specs.declared.fault.ShowFault.TheVariants.{Row as AtRow};
 ghost use Rattle.lot_io.specs.Writes.{writes_between};
 ghost use Rattle.lot_page_report.specs.List.{Lists};
 ghost use Rattle.lot_page_report.specs.Page.{ShowsPage, ShowsPageOfTables, ShowsSomePage};
 ghost use Rattle.lot_page_report.specs.Parts.{page_in};
 ghost use Rattle.lot_page_report.specs.Sections.{entry_piece, journal_end, sale_piece, sales_end};
 ghost use Rattle.lot_page_report.specs.Shown.{ListsEntries, ListsEntriesOfTables, ListsSales, ListsSalesOfTables};
+ghost use Rattle.lot_report.specs.declared.fault.ReportFault.TheVariants.{Range};
+ghost use Rattle.lot_report.specs.declared.fault.RowFault.TheVariants.{Report};
 
 use crate::journal::JournalList;
 use crate::list::{put_text, write_list};
@@ -30,8 +33,10 @@ const JOURNAL: &str = "<section id=\"journal\">\n<h2>Journal</h2>\n";
 /// what is held, what lots come to at the end of each month, the sales with their lots, and the
 /// journal. Nothing is flushed.
 ///
-/// The book is read several times, and stays as it is. Where it stops, or a sum leaves its range,
-/// the page is written up to there, and nothing behind.
+/// The book is read several times, and stays as it is. The fault is `Range` of the report only where
+/// a sum leaves its range. Then nothing is written, nor where the book stops before all is added up.
+/// Where it stops later or memory ends, a prefix of its page is, up to the end of a whole row; where
+/// the writer fails, one that may end anywhere.
 pub fn show_page<S: Alter, W: CountedWrite>(
     alloc: Global,
     book: &mut Book<S>,
@@ -65,13 +70,14 @@ fn show_sales<S: Alter, W: CountedWrite>(
     last: Option<Day>,
     writer: &mut W,
 ) -> Result<(), ShowFault>
-    ensures shows { HoldsOfBook S.Store book.old book.new (λ entries. OnOk result
-        (ListsSales (first, last) entries (W.contents writer.old) (W.contents writer.new))) }
+    ensures shows { HoldsOfBook S.Store book.old book.new (λ entries.
+        ListsSales (first, last) entries (W.contents writer.old) (W.contents writer.new) result) }
     ensures some { Lists sale_piece sales_end
         (W.contents writer.old) (W.contents writer.new) result }
     ensures rows { HoldsOfTables S.Store book.old book.new (λ tables. OnOk result
         (ListsSalesOfTables (first, last) tables
         (W.contents writer.old) (W.contents writer.new))) }
+    ensures in_range { result ≢ Err (AtRow (Report Range)) }
     ensures reads { ReadsBook S.Store book.old book.new result }
     ensures cause { HasCause result (writes_between (W.calls writer.old) (W.calls writer.new)) }
 {
@@ -88,13 +94,14 @@ fn show_entries<S: Alter, W: CountedWrite>(
     last: Option<Day>,
     writer: &mut W,
 ) -> Result<(), ShowFault>
-    ensures shows { HoldsOfBook S.Store book.old book.new (λ entries. OnOk result
-        (ListsEntries (first, last) entries (W.contents writer.old) (W.contents writer.new))) }
+    ensures shows { HoldsOfBook S.Store book.old book.new (λ entries.
+        ListsEntries (first, last) entries (W.contents writer.old) (W.contents writer.new) result) }
     ensures some { Lists (entry_piece (first, last)) (journal_end (first, last))
         (W.contents writer.old) (W.contents writer.new) result }
     ensures rows { HoldsOfTables S.Store book.old book.new (λ tables. OnOk result
         (ListsEntriesOfTables (first, last) tables
         (W.contents writer.old) (W.contents writer.new))) }
+    ensures in_range { result ≢ Err (AtRow (Report Range)) }
     ensures reads { ReadsBook S.Store book.old book.new result }
     ensures cause { HasCause result (writes_between (W.calls writer.old) (W.calls writer.new)) }
 {

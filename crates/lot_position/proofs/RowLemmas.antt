@@ -1,5 +1,5 @@
 -- The rows of what is kept, in its order.
-use Rattle.std.specs.Prelude.{◌≡◌, ℤ, pos, Bool, true, false, cond, List, [], ◌∷◌, ◌++◌, map, None, Some}
+use Rattle.std.specs.Prelude.{◌≡◌, ℤ, pos, Bool, true, false, cond, List, [], ◌∷◌, ◌++◌, map, None, Some, Err}
 use Rattle.std.specs.BTreeMap.{IsOrdered, get}
 use Rattle.std.specs.List.{AllByRecursion}
 use Rattle.std.specs.List.Sorted.{IsStrictlySortedBy}
@@ -19,7 +19,9 @@ use Rattle.lot_book.proofs.CaseLemmas.{by_bool}
 use Rattle.lot_book.proofs.OrderLemmas.{positions_total}
 use Rattle.lot_laws.proofs.OpeningLemmas.{zero_is}
 use Rattle.lot_legs.specs.declared.leg.DatedLeg.{DatedLeg}
-use Rattle.lot_position.specs.Held.{AreInRange, Keeps, ListsHeld, held_at, holding_at}
+use Rattle.lot_report.specs.declared.fault.ReportFault.{ReportFault}
+use Rattle.lot_report.specs.declared.fault.ReportFault.TheVariants.{Range}
+use Rattle.lot_position.specs.Held.{AreInRange, Keeps, ListsHeld, PushesRow, held_at, holding_at}
 use Rattle.lot_position.specs.declared.positions.Positions.{Positions}
 use Rattle.lot_position.proofs.KeepLemmas.{Sums}
 use Rattle.lot_position.proofs.SumLemmas.{some_kept, zero_gone}
@@ -94,6 +96,12 @@ rows_in_range day legs rows fit lists position =
     none = lit< tt
 
 -- ---- a sum that is out of range
+
+-- its row isn't pushed
+pub unfit : (position : Position) (units : ℤ) (old new : List Holding) (fault : ReportFault) → PushesRow position units old new (Err fault)
+    → fault ≡ Range → IsUnits units → ⊥
+unfit position units old new fault pushes at =
+    subst (λ (f : ReportFault). PushesRow position units old new (Err f)) at pushes
 
 -- one among others
 among : {X : Type 0} (P : X → Type 0) (before behind : List X) (x : X) → AllByRecursion P (before ++ x ∷ behind) → P x

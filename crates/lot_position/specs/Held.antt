@@ -1,5 +1,5 @@
 -- What was held at the end of a day: the sums of the legs up to it, position by position (docs/FORMATS.md, Holdings).
-use Rattle.std.specs.Prelude.{◌≡◌, ◌⊎◌, ◌≤ℤ◌, ◌<ℤ◌, IsTrue, List, map, ℤ, pos, ◌+ℤ◌, FitsSigned}
+use Rattle.std.specs.Prelude.{◌≡◌, ◌⊎◌, ◌≤ℤ◌, ◌<ℤ◌, IsTrue, List, [], ◌∷◌, ◌++◌, map, ℤ, pos, ◌+ℤ◌, FitsSigned, Result, Ok, Err}
 use Rattle.std.specs.BTreeMap.{BTreeMap, get}
 use Rattle.std.specs.Int.{w128}
 use Rattle.std.specs.List.{AllByRecursion}
@@ -15,6 +15,8 @@ use Rattle.lot_book.specs.declared.holding.Holding.{Holding}
 use Rattle.lot_book.specs.declared.leg.Position.{Position}
 use Rattle.lot_legs.specs.Legs.{day_of, is_by, leg_in, legs_by}
 use Rattle.lot_legs.specs.declared.leg.DatedLeg.{DatedLeg}
+use Rattle.lot_report.specs.declared.fault.ReportFault.{ReportFault}
+use Rattle.lot_report.specs.declared.fault.ReportFault.TheVariants.{Range, Write, Memory}
 use Rattle.lot_position.specs.declared.positions.Positions.{Positions}
 
 -- ---- what was held
@@ -66,3 +68,11 @@ NeedsMemory day legs leg = IsTrue (is_by day leg.day) × NeedsRoom (held_at day 
 abbrev pub holding_at : Position → ℤ → Holding
 holding_at position units =
     record { account = position.account; commodity = position.commodity; lot = position.lot; units = units }
+
+-- What becomes of rows with that of one position more. Its units are looked at first: memory is lacked only where they are in
+-- range.
+abbrev pub PushesRow : Position → ℤ → List Holding → List Holding → Result (Unit {0}) ReportFault → Type 0
+PushesRow position units old new (Ok done) = IsUnits units × (new ≡ old ++ holding_at position units ∷ [])
+PushesRow position units old new (Err Range) = ¬ IsUnits units
+PushesRow position units old new (Err Write) = ⊥
+PushesRow position units old new (Err Memory) = IsUnits units

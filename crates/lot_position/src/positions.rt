@@ -5,7 +5,7 @@ ghost use Rattle.lot_inv.specs.Inventory.{non_zero};
 ghost use Rattle.lot_legs.specs.Legs.{leg_in};
 ghost use Rattle.lot_legs.specs.declared.leg.DatedLeg.{DatedLeg as DatedLegOf};
 ghost use Rattle.lot_num.specs.Amount.{IsUnits};
-ghost use Rattle.lot_position.specs.Held.{AreInRange, Keeps, ListsHeld, NeedsMemory, NeedsRoom, holding_at, kept_at};
+ghost use Rattle.lot_position.specs.Held.{AreInRange, Keeps, ListsHeld, NeedsMemory, NeedsRoom, PushesRow, holding_at, kept_at};
 ghost use Rattle.lot_report.specs.declared.fault.ReportFault.TheVariants.{Memory, Range, Write};
 
 use lot_base::Day;
@@ -76,10 +76,7 @@ impl Positions {
     {
         let mut rows = Vec::new(alloc);
         for (position, units) in self.sums {
-            let Some(row) = holding_at(position, units) else {
-                return Err(ReportFault::Range);
-            };
-            rows.push(row)?;
+            push_row(&mut rows, position, units)?;
         }
         Ok(rows)
     }
@@ -129,6 +126,18 @@ fn put(sums: &mut Sums, position: Position, units: Units) -> Result<(), ReportFa
         Ok(_) => Ok(()),
         Err(_) => Err(ReportFault::Memory),
     }
+}
+
+/// Adds the row of a position with so many units behind others. The error is `Range` where they are
+/// out of the range of units, else `Memory`.
+fn push_row(rows: &mut Vec<Holding>, position: Position, units: i128) -> Result<(), ReportFault>
+    ensures { PushesRow position units rows.old.items rows.new.items result }
+{
+    let Some(row) = holding_at(position, units) else {
+        return Err(ReportFault::Range);
+    };
+    rows.push(row)?;
+    Ok(())
 }
 
 /// Returns the row of a position with so many units, or `None` where they are out of range.

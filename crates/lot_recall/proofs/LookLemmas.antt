@@ -172,10 +172,11 @@ module _ (key : LegKey) where
   -- the leg at the key
   pub was_recalled : (rows : List LegRow) (row : LegRow) (narration : Option (List ℕ)) (leg : NotedLeg) → find (is_leg_at key) rows ≡ Some row
       → leg ≡ recalled row key.day narration → Recalls key rows narration (Ok leg)
-  was_recalled rows row narration leg found is = record { gives = record { row = row; found = found; is = is }; damaged = λ at. cc }
+  was_recalled rows row narration leg found is = record { gives = record { row = row; found = found; is = is }; damaged = λ at. cc; lacking = λ at. cc }
 
   pub not_recalled : (rows : List LegRow) (narration : Option (List ℕ)) → find (is_leg_at key) rows ≡ None → Recalls key rows narration (Err Damaged)
-  not_recalled rows narration none = record { gives = tt; damaged = λ at. none }
+  not_recalled rows narration none = record { gives = tt; damaged = λ at. none; lacking = λ at. cc }
 
-  pub out_of_memory : (rows : List LegRow) (narration : Option (List ℕ)) → Recalls key rows narration (Err Memory)
-  out_of_memory rows narration = record { gives = tt; damaged = λ at. cc }
+  pub out_of_memory : (rows : List LegRow) (row : LegRow) (narration : Option (List ℕ)) → find (is_leg_at key) rows ≡ Some row
+      → Recalls key rows narration (Err Memory)
+  out_of_memory rows row narration found = record { gives = tt; damaged = λ at. cc; lacking = λ at. ap is_some found }

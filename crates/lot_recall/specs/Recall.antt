@@ -1,5 +1,5 @@
 -- Rows of the tables `leg` and `entry` that are looked up again.
-use Rattle.std.specs.Prelude.{◌≡◌, ◌≢◌, ◌⊎◌, ℕ, ℤ, pos, ◌==◌, ◌&&◌, Bool, true, false, All, IfOk, IfErr, List, [], ◌∷◌, filter, find, map, take, Option, None, Some, OnErr, OnOk, Result, Err, Vec}
+use Rattle.std.specs.Prelude.{◌≡◌, ◌≢◌, ◌⊎◌, ℕ, ℤ, pos, ◌==◌, ◌&&◌, Bool, true, false, All, IfOk, IfErr, List, [], ◌∷◌, filter, find, map, take, Option, None, Some, IsSome, OnErr, OnOk, Result, Err, Vec}
 use Rattle.std.specs.List.{AllByRecursion, list_any}
 use Rattle.std.specs.declared.alloc.Global.{Global}
 use Rattle.sqlite.specs.Order.{Row}
@@ -24,7 +24,7 @@ use Rattle.lot_table.specs.Call.{Answers}
 use Rattle.lot_table.specs.Rows.{with_key}
 use Rattle.lot_table.specs.Statement.{DiskFailed}
 use Rattle.lot_table.specs.declared.fault.Fault.{Fault}
-use Rattle.lot_table.specs.declared.fault.Fault.TheVariants.{Damaged, Device}
+use Rattle.lot_table.specs.declared.fault.Fault.TheVariants.{Damaged, Device, Memory}
 use Rattle.lot_walk.specs.Step.{StaysOrGoesBack}
 
 -- ---- rows that are kept
@@ -106,6 +106,7 @@ pub record IsRecalled (key : LegKey) (rows : List LegRow) (narration : Option (L
 pub record Recalls (key : LegKey) (rows : List LegRow) (narration : Option (List ℕ)) (result : Result NotedLeg Fault) : Type 0 where
   pub gives : IfOk result (IsRecalled key rows narration)
   pub damaged : result ≡ Err Damaged → find (is_leg_at key) rows ≡ None
+  pub lacking : result ≡ Err Memory → IsSome (find (is_leg_at key) rows)
 
 -- ---- entries
 

@@ -63,7 +63,7 @@ impl FewLegs {
 
     /// Returns the leg at a key, whose posting was read, with the narration of its entry.
     ///
-    /// The error is `Damaged` where it isn't among these, or `Memory`.
+    /// The error is `Damaged` where it isn't among these, else `Memory`.
     pub fn recall(&self, key: &LegKey, narration: Option<Note>) -> Result<NotedLeg, Fault>
         ensures recalls { Recalls key.now self.now.rows.items narration result }
         ensures no_device { result ≢ Err Fault.Device }

@@ -21,7 +21,7 @@ use Rattle.lot_report.specs.declared.fault.ReportFault.TheVariants.{Memory}
 use Rattle.lot_statement.specs.Line.{Line, said_of}
 use Rattle.lot_statement.specs.Statement.{HasSaid}
 use Rattle.lot_statement.proofs.LineLemmas.{said_push}
-use Rattle.lot_tally.specs.Rows.{Adds}
+use Rattle.lot_tally.specs.Rows.{AddsFitting}
 use Rattle.lot_tally.proofs.InsertLemmas.{lookup_with, sorted_with}
 use Rattle.lot_tally.proofs.SumLemmas.{filter_push}
 use Rattle.lot_reconcile.specs.Balance.{AreBalances, balance, balance_of, balance_with, has_room, held_in, is_known, is_of, leg_fits, said_alone, said_in, weight_of}
@@ -188,14 +188,16 @@ pub leg_added : (lines : List Line) (legs : List DatedLeg) (leg : DatedLeg) (row
     → name ≡ leg.commodity → units ≡ leg.units → AreBalances lines legs rows.entries → kept ≡ balance_of lines legs name
     → IsTrue (has_room kept units) × (b ≡ balance_with kept units)
     → OnOk result (new.entries ≡ insert_entry text_cmp rows.entries name b) → IfErr result (λ fault. fault ≡ Memory)
-    → Adds (leg_fits lines legs leg) (AreBalances lines (legs ++ leg ∷ []) new.entries) result
+    → AddsFitting (leg_fits lines legs leg) (AreBalances lines (legs ++ leg ∷ []) new.entries) result
 leg_added lines legs leg rows new name units kept b (Ok done) own of_leg are is (room, more) set cause =
     let balance_is : kept ≡ balance_of lines legs leg.commodity = is ∙ ap (balance_of lines legs) own in (
       subst IsTrue (λ i. has_room (balance_is i) (of_leg i)) room,
       subst (AreBalances lines (legs ++ leg ∷ [])) (sym (set ∙ ap (λ n. insert_entry text_cmp rows.entries n b) own))
           (row_set lines legs leg rows.entries b are (more ∙ (λ i. balance_with (balance_is i) (of_leg i)))),
     )
-leg_added lines legs leg rows new name units kept b (Err fault) own of_leg are is more set cause = rw (cause) tt
+leg_added lines legs leg rows new name units kept b (Err fault) own of_leg are is more set cause =
+    let balance_is : kept ≡ balance_of lines legs leg.commodity = is ∙ ap (balance_of lines legs) own in
+    rw (cause) (subst IsTrue (λ i. has_room (balance_is i) (of_leg i)) more.0)
 
 -- a leg that doesn't fit
 pub leg_unfit : (lines : List Line) (legs : List DatedLeg) (leg : DatedLeg) (name : List ℕ) (units : ℤ) (kept : Balance)

@@ -6,7 +6,7 @@ ghost use Rattle.lot_legs.specs.declared.leg.DatedLeg.{DatedLeg as DatedLegOf};
 ghost use Rattle.lot_report.specs.Written.{WritesEach};
 ghost use Rattle.lot_statement.specs.Line.{Line};
 ghost use Rattle.lot_statement.specs.Statement.{HasSaid};
-ghost use Rattle.lot_tally.specs.Rows.{Adds};
+ghost use Rattle.lot_tally.specs.Rows.{Adds, AddsFitting};
 ghost use Rattle.lot_tally.specs.declared.key.TableForm.TheVariants.{Csv};
 ghost use Rattle.lot_reconcile.specs.Balance.{AreBalances, leg_fits};
 ghost use Rattle.lot_reconcile.specs.Table.{agree, row_text, table_lines, text_lines};
@@ -49,11 +49,12 @@ pub(crate) fn add_leg(rows: &mut Rows, leg: &DatedLeg) -> Result<(), ReportFault
     add_units(rows, commodity, leg.units)
 }
 
-/// Adds the units of a leg to the row of its commodity.
+/// Adds the units of a leg to the row of its commodity. The error is `Range` where a sum of the row
+/// leaves its range, else `Memory`.
 fn add_units(rows: &mut Rows, commodity: Commodity, units: Units) -> Result<(), ReportFault>
     ensures { (lines : List Line) (legs : List DatedLegOf) (leg : DatedLegOf)
         → commodity ≡ leg.commodity → units ≡ leg.units → AreBalances lines legs rows.old.entries
-        → Adds (leg_fits lines legs leg)
+        → AddsFitting (leg_fits lines legs leg)
         (AreBalances lines (legs ++ leg ∷ []) rows.new.entries) result }
 {
     let balance = rows

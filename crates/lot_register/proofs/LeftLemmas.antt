@@ -16,8 +16,8 @@ use Rattle.lot_book.specs.declared.change.Pair.{Pair}
 use Rattle.lot_book.proofs.CaseLemmas.{by_bool}
 use Rattle.lot_book.proofs.SumLemmas.{sum_where, sum_where-append, sum_where-push, sum_where_apart, sum_where_here}
 use Rattle.lot_report.specs.declared.fault.ReportFault.{ReportFault}
-use Rattle.lot_report.specs.declared.fault.ReportFault.TheVariants.{Memory, Write}
-use Rattle.lot_register.specs.Left.{ArePassedBy, HasLefts, Leaves, is_of_pair, left_behind, left_in, pair_of, stays}
+use Rattle.lot_report.specs.declared.fault.ReportFault.TheVariants.{Memory, Range, Write}
+use Rattle.lot_register.specs.Left.{ArePassedBy, HasLefts, Leaves, LeavesStaying, is_of_pair, left_behind, left_in, pair_of, stays}
 use Rattle.lot_register.specs.declared.left.Lefts.{Lefts}
 use Rattle.lot_register.specs.declared.leg.NotedLeg.{NotedLeg}
 
@@ -92,19 +92,35 @@ module _ (legs : List NotedLeg) (leg : NotedLeg) (old new : Lefts) (pair : Pair)
       ∙ has other
       ∙ sym (left_push legs leg other ∙ ap (λ b. cond b (left_in legs other +ℤ leg.units) (left_in legs other)) apart)
 
-  -- the new sum is kept
-  pub left_set : (result : Result ℤ ReportFault) → IsUnits (kept_of old pair +ℤ leg.units) × (left ≡ kept_of old pair +ℤ leg.units)
-      → IfOk result (λ units. units ≡ left) → OnOk result Sets → IfErr result (λ fault. fault ≡ Memory) → Leaves legs leg new result
-  left_set (Ok units) (room, more) value sets cause = (
-    units_are (left_behind legs leg) (subst IsUnits sum_is room),
-    value ∙ more ∙ sum_is,
-    λ other. by_bool (is_eq (pair_cmp pair other)) (set_here more sets other) (set_apart sets other),
-  )
-  left_set (Err fault) (room, more) value sets cause = rw (cause) tt
+  -- units that are those of the leg
+  module _ (units : ℤ) (of_leg : units ≡ leg.units) where
+    stays_so : IsUnits (kept_of old pair +ℤ units) → IsTrue (stays legs leg)
+    stays_so room = units_are (left_behind legs leg) (subst IsUnits (ap (λ z. kept_of old pair +ℤ z) of_leg ∙ sum_is) room)
 
-  -- or it leaves the range
-  pub left_unfit : (IsUnits (kept_of old pair +ℤ leg.units) → ⊥) → IsTrue (not (stays legs leg))
-  left_unfit never = units_are_not (left_behind legs leg) (λ units. never (subst IsUnits (sym sum_is) units))
+    -- the new sum is kept
+    pub left_set : (result : Result ℤ ReportFault) → IsUnits (kept_of old pair +ℤ units) × (left ≡ kept_of old pair +ℤ units)
+        → IfOk result (λ sum. sum ≡ left) → OnOk result Sets → IfErr result (λ fault. fault ≡ Memory) → LeavesStaying legs leg new result
+    left_set (Ok sum) (room, more) value sets cause =
+        let is_more : left ≡ kept_of old pair +ℤ leg.units = more ∙ ap (λ z. kept_of old pair +ℤ z) of_leg in (
+          stays_so room,
+          value ∙ is_more ∙ sum_is,
+          λ other. by_bool (is_eq (pair_cmp pair other)) (set_here is_more sets other) (set_apart sets other),
+        )
+    left_set (Err fault) (room, more) value sets cause = rw (cause) (stays_so room)
+
+    -- or it leaves the range
+    pub left_unfit : (IsUnits (kept_of old pair +ℤ units) → ⊥) → IsTrue (not (stays legs leg))
+    left_unfit never =
+        units_are_not (left_behind legs leg)
+        (λ sum. never (subst IsUnits (sym (ap (λ z. kept_of old pair +ℤ z) of_leg ∙ sum_is)) sum))
+
+-- that memory is lacked by what stays in range is more than is said with the pair of the leg
+pub staying_leaves : (legs : List NotedLeg) (leg : NotedLeg) (lefts : Lefts) (result : Result ℤ ReportFault)
+    → LeavesStaying legs leg lefts result → Leaves legs leg lefts result
+staying_leaves legs leg lefts (Ok left) leaves = leaves
+staying_leaves legs leg lefts (Err Range) unfit = unfit
+staying_leaves legs leg lefts (Err Write) never = never
+staying_leaves legs leg lefts (Err Memory) stays = tt
 
 pub memory_alone : {A : Type 0} (result : Result A ReportFault) → IfErr result (λ fault. fault ≡ Memory) → IfErr result (λ fault. fault ≢ Write)
 memory_alone (Ok done) is = tt

@@ -69,3 +69,10 @@ Leaves legs leg lefts (Ok left) = IsTrue (stays legs leg) × (left ≡ left_behi
 Leaves legs leg lefts (Err Range) = IsTrue (not (stays legs leg))
 Leaves legs leg lefts (Err Write) = ⊥
 Leaves legs leg lefts (Err Memory) = ⊤
+
+-- the same where the sum is looked at first: memory is lacked only by one that stays in range
+abbrev pub LeavesStaying : List NotedLeg → NotedLeg → Lefts → Result ℤ ReportFault → Type 0
+LeavesStaying legs leg lefts (Ok left) = IsTrue (stays legs leg) × (left ≡ left_behind legs leg) × HasLefts (legs ++ leg ∷ []) lefts
+LeavesStaying legs leg lefts (Err Range) = IsTrue (not (stays legs leg))
+LeavesStaying legs leg lefts (Err Write) = ⊥
+LeavesStaying legs leg lefts (Err Memory) = IsTrue (stays legs leg)

@@ -5,7 +5,7 @@ ghost use Rattle.std.specs.Ordering.{is_eq};
 ghost use Rattle.lot_book.specs.Change.{pair_cmp};
 ghost use Rattle.lot_book.specs.declared.change.Pair.{Pair as PairOf};
 ghost use Rattle.lot_num.specs.Amount.{IsUnits};
-ghost use Rattle.lot_register.specs.Left.{HasLefts, Leaves, pair_of};
+ghost use Rattle.lot_register.specs.Left.{HasLefts, Leaves, LeavesStaying, pair_of};
 ghost use Rattle.lot_register.specs.declared.leg.NotedLeg.{NotedLeg as NotedLegOf};
 
 use crate::leg::NotedLeg;
@@ -39,7 +39,18 @@ impl Lefts {
         ensures cause { IfErr result (λ fault. fault ≢ ReportFault.Write) }
     {
         let pair = pair_of(leg)?;
-        match self.sum_with(&pair, leg.units) {
+        self.add_units(pair, leg.units)
+    }
+
+    /// Adds units to what is left of a commodity in an account, and returns that. The error is
+    /// `Range` where it leaves the range of units, else `Memory`.
+    fn add_units(&mut self, pair: Pair, units: Units) -> Result<Units, ReportFault>
+        ensures leaves { (legs : List NotedLegOf) (leg : NotedLegOf) → pair ≡ pair_of leg
+            → units ≡ leg.units → HasLefts legs self.old
+            → LeavesStaying legs leg self.new result }
+        ensures cause { IfErr result (λ fault. fault ≢ ReportFault.Write) }
+    {
+        match self.sum_with(&pair, units) {
             Some(left) => self.set(pair, left),
             None => Err(ReportFault::Range),
         }

@@ -107,7 +107,7 @@ of_tables terms asked tables place begins start now (Err fault) shows = tt
 
 pub unread : (terms : Terms) (legs : List NotedLeg) (start : Option (List ℕ)) (fault : ShowFault) → IsOfKeys fault → fault ≢ AtWalk Ended
     → ShowsRegister terms legs start start (Err fault)
-unread terms legs start (AtWalk (Failed fault)) of_keys going = inl (Appends-nil start)
+unread terms legs start (AtWalk (Failed fault)) of_keys going = (inl (Appends-nil start), λ other. inl (Appends-nil start))
 unread terms legs start (AtWalk Ended) of_keys going = absurd (going refl)
 unread terms legs start (AtRow (Report Memory)) of_keys going = inl (Appends-nil start)
 unread terms legs start (AtRow (Report Range)) of_keys going = absurd of_keys

@@ -24,7 +24,7 @@ use Rattle.lot_register.proofs.RowLemmas.{written_push}
 use Rattle.lot_register_report.specs.Show.{ShowsRegister}
 use Rattle.lot_report.specs.Fed.{joined}
 use Rattle.lot_report.specs.Printed.{line}
-use Rattle.lot_report.specs.Report.{report_fault}
+use Rattle.lot_report.specs.Report.{EachFits, report_fault}
 use Rattle.lot_report.specs.Written.{AppendsPrefix, WritesEach}
 use Rattle.lot_report.specs.declared.fault.ReportFault.{ReportFault}
 use Rattle.lot_report.specs.declared.fault.ReportFault.TheVariants as report
@@ -35,6 +35,7 @@ use Rattle.lot_rows.proofs.StateLemmas.{early}
 use Rattle.lot_rows.specs.Tables.{Tables}
 use Rattle.lot_store.specs.Walk.{Gives, GivesRows, HasGiven, HasGivenRows, Walks, WalksOverRows}
 use Rattle.lot_store.specs.declared.fault.StoreFault.{StoreFault}
+use Rattle.lot_store.specs.declared.fault.StoreFault.TheVariants as store
 use Rattle.lot_store.specs.declared.walk.Walk.{Walk}
 use Rattle.lot_store.specs.declared.walk.WalkFault.{WalkFault}
 use Rattle.lot_store.specs.declared.walk.WalkFault.TheVariants.{Failed}
@@ -124,6 +125,12 @@ none_of_foot Csv rows start now part = none_of_none start now part
 
 -- ---- legs that were given, wherever they come from
 
+-- behind a leg there is a first one
+behind_leg : (legs before : List NotedLeg) (last : NotedLeg) → legs ≡ before ++ last ∷ []
+    → (leg : NotedLeg) × (given : List NotedLeg) × (legs ≡ leg ∷ given)
+behind_leg legs [] last is = (last, [], is)
+behind_leg legs (first ∷ before) last is = (first, before ++ last ∷ [], is)
+
 module _ (terms : Terms) (start : Option (List ℕ)) where
   abbrev lines : List NotedLeg → List ℕ
   lines legs = joined (lines_to terms.0 terms.1 legs)
@@ -149,7 +156,7 @@ module _ (terms : Terms) (start : Option (List ℕ)) where
   module _ (AreAll : List NotedLeg → Type 0) (begins : (rest : List NotedLeg) × AreAll rest) where
     -- the book stops
     pub not_begun : (fault : StoreFault) → ShowsAll AreAll start (Err (AtWalk (Failed fault)))
-    not_begun fault = (begins.0, begins.1, inl (Appends-nil start))
+    not_begun fault = (begins.0, begins.1, (inl (Appends-nil start), λ other. inl (Appends-nil start)))
 
     -- the names of the columns aren't written, or not all of them
     pub no_head : (now : Option (List ℕ)) (fault : PrintFault) → WritesEach (λ (text : List ℕ). text) (head_lines terms.0) start now (Err fault)
@@ -179,9 +186,29 @@ module _ (terms : Terms) (start : Option (List ℕ)) where
     }
 
     module _ (AreAll : List NotedLeg → Type 0) where
-      -- the book stops, or memory ends beside it
-      pub stopped : (fault : StoreFault) → (rest : List NotedLeg) × AreAll (legs ++ rest) → ShowsAll AreAll now (Err (AtWalk (Failed fault)))
-      stopped fault (rest, all) = (legs ++ rest, all, inr (legs, rest, refl, has.taken.2, has.written))
+      -- memory ends beside the book
+      pub short : (rest : List NotedLeg) × AreAll (legs ++ rest) → ShowsAll AreAll now (Err (AtWalk (Failed store.Memory)))
+      short (rest, all) = (legs ++ rest, all, (inr (legs, rest, refl, has.taken.2, has.written), λ other. absurd (other refl)))
+
+      -- the book stops behind the last of them
+      pub stopped : (fault : StoreFault) (before : List NotedLeg) (last : NotedLeg) → legs ≡ before ++ last ∷ []
+          → (rest : List NotedLeg) × AreAll (legs ++ rest) → ShowsAll AreAll now (Err (AtWalk (Failed fault)))
+      stopped fault before last is (rest, all) =
+          let (leg, given, own) = behind_leg legs before last is in (
+            legs ++ rest,
+            all,
+            (
+              inr (legs, rest, refl, has.taken.2, has.written),
+              λ other. inr (
+                leg,
+                given,
+                rest,
+                ap (λ (ls : List NotedLeg). ls ++ rest) own,
+                subst (EachFits stays []) own has.taken.2,
+                subst (λ (ls : List NotedLeg). Appends start now (lines ls)) own has.written,
+              ),
+            ),
+          )
 
       -- the register ends at a leg
       pub cut : (leg : NotedLeg) (later : Register) (written : Option (List ℕ)) (fault : ReportFault)
@@ -332,14 +359,14 @@ module _ {S : Type 0} (g : Ghosts S) (first : Walk S RegisterPlace g) (begun : R
   module _ (walk : Walk S RegisterPlace g) (register : Register) (now : Option (List ℕ)) where
     -- memory ends beside the book
     module _ (found : Option NotedLeg) (wrote : Wrote walk found register now) where
-      pub walk_short : (fault : StoreFault) → Showing walk now (Err (AtWalk (Failed fault)))
-      walk_short fault = λ terms fresh clean wanted entries has.
-          stopped terms start wrote.legs register now (wrote.fed terms fresh) (AreWanted wanted entries) fault
+      pub walk_short : Showing walk now (Err (AtWalk (Failed store.Memory)))
+      walk_short = λ terms fresh clean wanted entries has.
+          short terms start wrote.legs register now (wrote.fed terms fresh) (AreWanted wanted entries)
           (begins walk wanted entries wrote.legs found (wrote.of_book clean wanted entries has))
 
-      pub some_short : (fault : StoreFault) → ShowingSome now (Err (AtWalk (Failed fault)))
-      some_short fault = λ terms fresh.
-          of_any terms start now (Err (AtWalk (Failed fault))) (stopped terms start wrote.legs register now (wrote.fed terms fresh) AreAny fault ([], tt))
+      pub some_short : ShowingSome now (Err (AtWalk (Failed store.Memory)))
+      some_short = λ terms fresh.
+          of_any terms start now (Err (AtWalk (Failed store.Memory))) (short terms start wrote.legs register now (wrote.fed terms fresh) AreAny ([], tt))
 
     -- all legs are given
     module _ (wrote : Wrote walk None register now) (later : Option (List ℕ)) where
@@ -402,11 +429,13 @@ module _ {S : Type 0} (g : Ghosts S) (first : Walk S RegisterPlace g) (begun : R
             → Showing after later (Err (AtWalk (Failed fault)))
         walk_stopped after at walks fault = λ terms fresh clean wanted entries has.
             let was = early (state g walk.book.now.conn) (state g after.book.now.conn) walks.crash clean in
-            stopped terms start (wrote.legs ++ leg ∷ []) behind later (fed_with terms fresh) (AreWanted wanted entries) fault (wrote.of_book was wanted entries has).prefix
+            stopped terms start (wrote.legs ++ leg ∷ []) behind later (fed_with terms fresh) (AreWanted wanted entries) fault wrote.legs leg refl
+            (wrote.of_book was wanted entries has).prefix
 
         pub some_stopped : (fault : StoreFault) → ShowingSome later (Err (AtWalk (Failed fault)))
         some_stopped fault = λ terms fresh.
-            of_any terms start later (Err (AtWalk (Failed fault))) (stopped terms start (wrote.legs ++ leg ∷ []) behind later (fed_with terms fresh) AreAny fault ([], tt))
+            of_any terms start later (Err (AtWalk (Failed fault)))
+            (stopped terms start (wrote.legs ++ leg ∷ []) behind later (fed_with terms fresh) AreAny fault wrote.legs leg refl ([], tt))
 
         -- the walk goes on
         pub walk_grown : (after : Walk S RegisterPlace g) (found : Option NotedLeg) → Called walk after (Ok found) → CalledOverRows walk after (Ok found)

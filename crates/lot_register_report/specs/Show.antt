@@ -1,5 +1,5 @@
 -- The register of accounts of a book, written as its legs are read (docs/FORMATS.md, Register).
-use Rattle.std.specs.Prelude.{◌≡◌, ◌⊎◌, ℕ, ℤ, IsTrue, not, List, [], ◌∷◌, ◌++◌, OnOk, Option, None, Some, Result, Ok, Err, ⊤}
+use Rattle.std.specs.Prelude.{◌≡◌, ◌≢◌, ◌⊎◌, ℕ, ℤ, IsTrue, not, List, [], ◌∷◌, ◌++◌, OnOk, Option, None, Some, Result, Ok, Err, ⊤}
 use Rattle.std.specs.Io.KnownBytes.{Appends}
 use Rattle.std.specs.List.{AllByRecursion}
 use Rattle.lot_book.specs.Facts.{Entry}
@@ -24,6 +24,7 @@ use Rattle.lot_report.specs.Written.{AppendsPrefix}
 use Rattle.lot_report.specs.declared.fault.ReportFault.TheVariants.{Memory, Range, Write}
 use Rattle.lot_report.specs.declared.fault.RowFault.TheVariants.{Report, Spent}
 use Rattle.lot_rows.specs.Tables.{Tables}
+use Rattle.lot_store.specs.declared.fault.StoreFault.TheVariants as store_fault
 use Rattle.lot_store.specs.declared.walk.WalkFault.TheVariants.{Ended, Failed}
 use Rattle.lot_stored.specs.StandFor.{StandFor}
 use Rattle.lot_walk.specs.Step.{IsPrefix}
@@ -96,6 +97,13 @@ StopsWithin terms legs start now =
     ⊎ ((given : List NotedLeg) × (rest : List NotedLeg) × (legs ≡ given ++ rest) × EachFits stays [] given
     × Appends start now (joined (lines_to terms.0 terms.1 given)))
 
+-- those of one leg or more are, or nothing at all, not even the names of the columns
+abbrev pub StopsBehindLeg : Terms → List NotedLeg → Option (List ℕ) → Option (List ℕ) → Type 0
+StopsBehindLeg terms legs start now =
+    Appends start now []
+    ⊎ ((leg : NotedLeg) × (given : List NotedLeg) × (rest : List NotedLeg) × (legs ≡ (leg ∷ given) ++ rest)
+    × EachFits stays [] (leg ∷ given) × Appends start now (joined (lines_to terms.0 terms.1 (leg ∷ given))))
+
 -- the rows before the first leg behind which what is left isn't in the range of units
 abbrev pub StopsAtRange : Terms → List NotedLeg → Option (List ℕ) → Option (List ℕ) → Type 0
 StopsAtRange terms legs start now =
@@ -103,10 +111,12 @@ StopsAtRange terms legs start now =
     × IsTrue (not (stays given leg)) × Appends start now (joined (lines_to terms.0 terms.1 given))
 
 -- The register of legs is written behind what the writer held. Where the book stops, or memory ends, whole rows are, or nothing.
--- Where what is left leaves its range, the rows before are. Where the writer fails, a prefix of the register is, but not all of it.
+-- Only where memory ends, the names of the columns may stand alone. Where what is left leaves its range, the rows before are.
+-- Where the writer fails, a prefix of the register is, but not all of it.
 abbrev pub ShowsRegister : Terms → List NotedLeg → Option (List ℕ) → Option (List ℕ) → Result (Unit {0}) ShowFault → Type 0
 ShowsRegister terms legs start now (Ok done) = EachFits stays [] legs × Appends start now (joined (register_lines terms.0 terms.1 legs))
-ShowsRegister terms legs start now (Err (AtWalk (Failed fault))) = StopsWithin terms legs start now
+ShowsRegister terms legs start now (Err (AtWalk (Failed fault))) =
+    StopsWithin terms legs start now × (fault ≢ store_fault.Memory → StopsBehindLeg terms legs start now)
 ShowsRegister terms legs start now (Err (AtWalk Ended)) = ⊥
 ShowsRegister terms legs start now (Err (AtRow (Report Range))) = StopsAtRange terms legs start now
 ShowsRegister terms legs start now (Err (AtRow (Report Memory))) = StopsWithin terms legs start now

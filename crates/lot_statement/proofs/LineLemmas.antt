@@ -111,7 +111,7 @@ pub kept : (lines : List Line) (line : Line) (old new : BTreeMap (List ℕ) ℤ)
     → OnOk result (new.entries ≡ insert_entry text_cmp old.entries line.0 line.1) → IfErr result (λ fault. fault ≡ Memory)
     → Keeps lines line new result
 kept lines line old new (Ok done) has none set cause = (none, line_set lines line old new has none set)
-kept lines line old new (Err fault) has none set cause = rw (cause) tt
+kept lines line old new (Err fault) has none set cause = rw (cause) none
 
 -- ---- a record
 
@@ -122,7 +122,7 @@ taken lines written line new (Err (Bad Repeated)) is some = (line, is, some)
 taken lines written line new (Err (Bad Length)) is never = absurd never
 taken lines written line new (Err (Bad Commodity)) is never = absurd never
 taken lines written line new (Err (Bad Units)) is never = absurd never
-taken lines written line new (Err Memory) is says = tt
+taken lines written line new (Err Memory) is says = (line, is)
 
 pub no_line : (lines : List Line) (written : List (List ℕ)) (new : BTreeMap (List ℕ) ℤ) (fault : LineFault)
     → GivesLine written (Err fault) → Takes lines written new (Err fault)
@@ -130,9 +130,9 @@ no_line lines written new (Bad Length) says = says
 no_line lines written new (Bad Commodity) says = says
 no_line lines written new (Bad Units) says = says
 no_line lines written new (Bad Repeated) says = absurd says
-no_line lines written new Memory says = tt
+no_line lines written new Memory says = says
 
 pub faulty_row : (lines : List Line) (written : List (List ℕ)) (new : BTreeMap (List ℕ) ℤ) (row : ℕ) (fault : LineFault)
     → row ≡ length lines + 1 → Takes lines written new (Err fault) → TakesRow lines written new (Err (fault_at row fault))
 faulty_row lines written new row (Bad cause) place takes = (place, takes)
-faulty_row lines written new row Memory place takes = tt
+faulty_row lines written new row Memory place takes = takes

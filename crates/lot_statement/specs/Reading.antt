@@ -9,26 +9,26 @@ use Rattle.lot_statement.specs.declared.fault.LineFault.TheVariants as line_faul
 use Rattle.lot_statement.specs.declared.fault.StatementFault.{StatementFault}
 use Rattle.lot_statement.specs.declared.fault.StatementFault.TheVariants.{BadHeader, BadRow, Memory}
 
--- what becomes of a line below others
+-- what becomes of a line below others; memory is lacked only by one whose commodity isn't kept yet
 abbrev pub Keeps : List Line → Line → BTreeMap (List ℕ) ℤ → Result (Unit {0}) LineFault → Type 0
 Keeps lines line new (Ok done) = (said_of lines line.0 ≡ None) × HasSaid (lines ++ line ∷ []) new
 Keeps lines line new (Err (line_fault.Bad Repeated)) = IsSome (said_of lines line.0)
 Keeps lines line new (Err (line_fault.Bad Length)) = ⊥
 Keeps lines line new (Err (line_fault.Bad Commodity)) = ⊥
 Keeps lines line new (Err (line_fault.Bad Units)) = ⊥
-Keeps lines line new (Err line_fault.Memory) = ⊤
+Keeps lines line new (Err line_fault.Memory) = said_of lines line.0 ≡ None
 
 -- the fault of a row with that number
 abbrev pub fault_at : ℕ → LineFault → StatementFault
 fault_at row (line_fault.Bad cause) = BadRow row cause
 fault_at row line_fault.Memory = Memory
 
--- what becomes of a record below others
+-- what becomes of a record below others; memory is lacked only by one that says a line
 abbrev pub Takes : List Line → List (List ℕ) → BTreeMap (List ℕ) ℤ → Result (Unit {0}) LineFault → Type 0
 Takes lines written new (Ok done) =
     (line : Line) × IsLine written line × (said_of lines line.0 ≡ None) × HasSaid (lines ++ line ∷ []) new
 Takes lines written new (Err (line_fault.Bad cause)) = IsFaulty lines written cause
-Takes lines written new (Err line_fault.Memory) = ⊤
+Takes lines written new (Err line_fault.Memory) = (line : Line) × IsLine written line
 
 -- the same, with the number of a faulty one
 abbrev pub TakesRow : List Line → List (List ℕ) → BTreeMap (List ℕ) ℤ → Result (Unit {0}) StatementFault → Type 0
@@ -36,7 +36,7 @@ TakesRow lines written new (Ok done) =
     (line : Line) × IsLine written line × (said_of lines line.0 ≡ None) × HasSaid (lines ++ line ∷ []) new
 TakesRow lines written new (Err BadHeader) = ⊥
 TakesRow lines written new (Err (BadRow number cause)) = (number ≡ length lines + 1) × IsFaulty lines written cause
-TakesRow lines written new (Err Memory) = ⊤
+TakesRow lines written new (Err Memory) = (line : Line) × IsLine written line
 
 -- the records behind the header say lines, of which no two have one commodity, and these are kept
 pub record SayAll (written : List (List (List ℕ))) (said : BTreeMap (List ℕ) ℤ) : Type 0 where

@@ -147,7 +147,8 @@ fn fault_at(row: usize, fault: LineFault) -> StatementFault
     }
 }
 
-/// Keeps what a record says, below those above it.
+/// Keeps what a record says, below those above it. A faulty one is told as such, never as out of
+/// memory.
 fn take(said: &mut Statement, alloc: Global, written: &ByteRecord) -> Result<(), LineFault>
     ensures { (lines : List Line) → HasSaid lines said.old
         → Takes lines (fields_of written.now) said.new result }

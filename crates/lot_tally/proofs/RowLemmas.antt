@@ -29,7 +29,7 @@ use Rattle.lot_report.specs.declared.fault.ReportFault.TheVariants.{Range, Write
 use Rattle.lot_report.proofs.EachLemmas.{text_more}
 use Rattle.lot_report.proofs.FedLemmas.{fit_more}
 use Rattle.lot_tally.specs.Lots.{CountedLot, RowKey, all_lots, sale_lots}
-use Rattle.lot_tally.specs.Rows.{Adds, AreRows, has_room, is_in_row, lot_fits, lots_fit, lots_in_row, row_cmp, sums_of, with_lot}
+use Rattle.lot_tally.specs.Rows.{Adds, AddsFitting, AreRows, has_room, is_in_row, lot_fits, lots_fit, lots_in_row, row_cmp, sums_of, with_lot}
 use Rattle.lot_tally.specs.Table.{HasCounted, HasRows, IsEnd, IsTable, fits, kept_cmp, seen, shown, table_lines}
 use Rattle.lot_tally.specs.declared.counted.Counted.{Counted}
 use Rattle.lot_tally.specs.declared.key.GainKey.{GainKey}
@@ -147,10 +147,11 @@ pub lot_added : {A : Type 0} (lots : List CountedLot) (lot : CountedLot) (rows n
     → lot ≡ lot_with (seen key) cost gain → HasRows lots rows → kept ≡ sums_of (lots_in_row (seen key) lots)
     → IsTrue (has_room kept cost gain) × (sums ≡ with_lot kept cost gain)
     → OnOk result (new.entries ≡ insert_entry kept_cmp rows.entries key sums) → IfErr result (λ fault. fault ≡ Memory)
-    → Adds (lot_fits lots lot) (HasRows (lots ++ lot ∷ []) new) result
+    → AddsFitting (lot_fits lots lot) (HasRows (lots ++ lot ∷ []) new) result
 lot_added lots lot rows new key cost gain kept sums (Ok done) own has is more set cause =
     lot_set lots lot rows new key cost gain kept sums own has is more set
-lot_added lots lot rows new key cost gain kept sums (Err fault) own has is more set cause = rw (cause) tt
+lot_added lots lot rows new key cost gain kept sums (Err fault) own has is more set cause =
+    rw (cause) (rw (own) (subst (λ (s : RowSums). IsTrue (has_room s cost gain)) is more.0))
 
 -- a lot that doesn't fit
 pub lot_unfit : {A : Type 0} (lots : List CountedLot) (lot : CountedLot) (key : String A × List ℕ) (cost : ℤ) (gain : Option Gain) (kept : RowSums)
@@ -209,7 +210,7 @@ all_lots_in all left lots old rows so_far none has =
 pub lot_stops : {A : Type 0} (all left rest lots : List CountedLot) (lot : CountedLot) (old rows : BTreeMap (String A × List ℕ) RowSums) (IsAdded : List CountedLot → Type 0) (Done : Type 0)
     (fault : ReportFault)
     → LotsSoFar all left old rows → left ≡ lot ∷ rest → HasRows lots old
-    → ((before : List CountedLot) → HasRows before rows → Adds (lot_fits before lot) (IsAdded before) (Err fault))
+    → ((before : List CountedLot) → HasRows before rows → AddsFitting (lot_fits before lot) (IsAdded before) (Err fault))
     → Adds (lots_fit lots all) Done (Err fault)
 lot_stops all left rest lots lot old rows IsAdded Done Range so_far is has added =
     let (done, split, fit, kept) = so_far lots has in
@@ -245,7 +246,7 @@ fits_as sales sale currency gain is =
 pub priced_in : (lots more : List CountedLot) (sales : List SaleParts) (sale : SaleParts) (currency : List ℕ) (gain : Gain) (counted : Counted)
     (result : Result (Unit {0}) ReportFault)
     → gained sale ≡ Some (currency, gain) → IsTrue (lots_fit lots more) × HasRows (lots ++ more) counted.rows
-    → Adds (is_wide (sum_in (amounts_of sales) currency +ℤ gain.gain))
+    → AddsFitting (is_wide (sum_in (amounts_of sales) currency +ℤ gain.gain))
     (AreSums (amounts_of sales ++ (currency, gain.gain) ∷ []) counted.totals.sums.entries) result
     → Adds (lots_fit lots more && gains.fits sales sale) (HasCounted (lots ++ more) (sales ++ sale ∷ []) counted) result
 priced_in lots more sales sale currency gain counted (Ok done) is (fit, rows) (wide, sums) = (

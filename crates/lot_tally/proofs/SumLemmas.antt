@@ -9,9 +9,9 @@ use Rattle.lot_num.specs.Sum.{sum_of}
 use Rattle.lot_book.specs.declared.gain.Gain.{Gain}
 use Rattle.lot_report.specs.Report.{AreSums, is_wide}
 use Rattle.lot_report.specs.declared.fault.ReportFault.{ReportFault}
-use Rattle.lot_report.specs.declared.fault.ReportFault.TheVariants.{Memory}
+use Rattle.lot_report.specs.declared.fault.ReportFault.TheVariants.{Range, Write, Memory}
 use Rattle.lot_tally.specs.Lots.{CountedLot, RowKey}
-use Rattle.lot_tally.specs.Rows.{Adds, cost_without, has_gain, of_gain, sums_of, with_lot}
+use Rattle.lot_tally.specs.Rows.{Adds, AddsFitting, cost_without, has_gain, of_gain, sums_of, with_lot}
 use Rattle.lot_tally.specs.declared.sums.RowSums.{RowSums}
 
 -- ---- one more at the end
@@ -96,11 +96,20 @@ rest_so false b both = absurd (true≢false (sym both))
 pub both_so : (a b : Bool) → IsTrue a → IsTrue b → IsTrue (a && b)
 both_so a b first rest = ap (λ c. c && b) first ∙ rest
 
+-- ---- something more
+
+-- that memory is lacked by what fits is more than is said of several sums
+pub fitting_adds : (fits : Bool) (IsAdded : Type 0) (result : Result (Unit {0}) ReportFault) → AddsFitting fits IsAdded result → Adds fits IsAdded result
+fitting_adds fits IsAdded (Ok done) added = added
+fitting_adds fits IsAdded (Err Range) unfit = unfit
+fitting_adds fits IsAdded (Err Write) never = never
+fitting_adds fits IsAdded (Err Memory) fit = tt
+
 -- ---- totals
 
 -- a total with one more amount, that is in range
 pub total_set : (amounts : List (List ℕ × ℤ)) (currency : List ℕ) (amount sum : ℤ) (sums : List (List ℕ × ℤ)) (result : Result (Unit {0}) ReportFault) → IsWide sum
     → OnOk result (AreSums (amounts ++ (currency, amount) ∷ []) sums) → IfErr result (λ fault. fault ≡ Memory)
-    → Adds (is_wide sum) (AreSums (amounts ++ (currency, amount) ∷ []) sums) result
+    → AddsFitting (is_wide sum) (AreSums (amounts ++ (currency, amount) ∷ []) sums) result
 total_set amounts currency amount sum sums (Ok done) wide set cause = (wide_is sum wide, set)
-total_set amounts currency amount sum sums (Err fault) wide set cause = rw (cause) tt
+total_set amounts currency amount sum sums (Err fault) wide set cause = rw (cause) (wide_is sum wide)

@@ -107,3 +107,10 @@ Adds fits IsAdded (Ok done) = IsTrue fits × IsAdded
 Adds fits IsAdded (Err Range) = IsTrue (not fits)
 Adds fits IsAdded (Err Write) = ⊥
 Adds fits IsAdded (Err Memory) = ⊤
+
+-- The same where the sums are looked at first: memory is lacked only by what fits.
+abbrev pub AddsFitting : Bool → Type 0 → Result (Unit {0}) ReportFault → Type 0
+AddsFitting fits IsAdded (Ok done) = IsTrue fits × IsAdded
+AddsFitting fits IsAdded (Err Range) = IsTrue (not fits)
+AddsFitting fits IsAdded (Err Write) = ⊥
+AddsFitting fits IsAdded (Err Memory) = IsTrue fits

@@ -8,7 +8,7 @@ ghost use Rattle.lot_report.specs.Gains as gains;
 ghost use Rattle.lot_report.specs.Gains.{gained};
 ghost use Rattle.lot_report.specs.Written.{WritesEach};
 ghost use Rattle.lot_tally.specs.Lots.{CountedLot, row_of, sale_lots};
-ghost use Rattle.lot_tally.specs.Rows.{Adds, lot_fits, lots_fit};
+ghost use Rattle.lot_tally.specs.Rows.{Adds, AddsFitting, lot_fits, lots_fit};
 ghost use Rattle.lot_tally.specs.Table.{HasCounted, HasRows, header, kept_cmp, row_text, shown, table_lines, text_lines};
 ghost use Rattle.lot_tally.specs.declared.key.TableForm.TheVariants.{Csv};
 
@@ -171,12 +171,13 @@ fn row_of(
     Ok((text, lot.currency.copy()?))
 }
 
-/// Adds a lot to its row: what it cost, and what it gained where its sale is priced.
+/// Adds a lot to its row: what it cost, and what it gained where its sale is priced. The error is
+/// `Range` where a sum of the row leaves its range, else `Memory`.
 fn add_lot(rows: &mut Rows, key: RowKey, cost: Wide, gain: Option<Gain>) -> Result<(), ReportFault>
     ensures { (lots : List CountedLot) (lot : CountedLot)
         → lot ≡ record { row = (string_bytes key.0, key.1); cost = cost; gain = gain }
         → HasRows lots rows.old
-        → Adds (lot_fits lots lot) (HasRows (lots ++ lot ∷ []) rows.new) result }
+        → AddsFitting (lot_fits lots lot) (HasRows (lots ++ lot ∷ []) rows.new) result }
 {
     let sums = rows.get(&key).copied().unwrap_or(RowSums::none());
     match sums.with(cost, gain) {

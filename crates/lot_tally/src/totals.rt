@@ -5,7 +5,7 @@ ghost use Rattle.lot_io.specs.Writes.{HasFailed, NoneFailed};
 ghost use Rattle.lot_report.specs.Printed.{total_of};
 ghost use Rattle.lot_report.specs.Report.{AreSums, is_wide};
 ghost use Rattle.lot_report.specs.Written.{WritesEach, WritesLine};
-ghost use Rattle.lot_tally.specs.Rows.{Adds};
+ghost use Rattle.lot_tally.specs.Rows.{AddsFitting};
 
 use lot_base::Commodity;
 use lot_io::CountedWrite;
@@ -30,11 +30,11 @@ impl Totals {
         }
     }
 
-    /// Adds an amount. Returns `Range` where it takes the sum in its currency out of the range of
-    /// weights.
+    /// Adds an amount. The error is `Range` where it takes the sum in its currency out of the range
+    /// of weights, else `Memory`.
     pub fn add(&mut self, currency: &Commodity, amount: Wide) -> Result<(), ReportFault>
         ensures { (amounts : List (List ℕ × ℤ)) → AreSums amounts self.old.sums.entries
-            → Adds (is_wide (sum_in amounts currency.now +ℤ amount))
+            → AddsFitting (is_wide (sum_in amounts currency.now +ℤ amount))
             (AreSums (amounts ++ (currency.now, amount) ∷ []) self.new.sums.entries) result }
     {
         match self.sum_with(currency, amount) {

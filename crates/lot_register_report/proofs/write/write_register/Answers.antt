@@ -217,11 +217,11 @@ legs-preserved g c =
 
 pub returns-clause-shows : goal.returns-clause-shows
 returns-clause-shows g c =
-    rw c.from.ensures (walk_short g.S.Store c.args.walk.now c.args.register.now (g.W.CountedWrite.contents c.args.writer.now) c.legs.walk c.legs.register _ c.legs.found c.legs.invariant.wrote Memory)
+    rw c.from.ensures (walk_short g.S.Store c.args.walk.now c.args.register.now (g.W.CountedWrite.contents c.args.writer.now) c.legs.walk c.legs.register _ c.legs.found c.legs.invariant.wrote)
 
 pub returns-clause-some : goal.returns-clause-some
 returns-clause-some g c =
-    rw c.from.ensures (some_short g.S.Store c.args.walk.now c.args.register.now (g.W.CountedWrite.contents c.args.writer.now) c.legs.walk c.legs.register _ c.legs.found c.legs.invariant.wrote Memory)
+    rw c.from.ensures (some_short g.S.Store c.args.walk.now c.args.register.now (g.W.CountedWrite.contents c.args.writer.now) c.legs.walk c.legs.register _ c.legs.found c.legs.invariant.wrote)
 
 pub returns-clause-reads : goal.returns-clause-reads
 returns-clause-reads g c =
