@@ -1,7 +1,5 @@
 -- Databases that are opened in files of one kind.
 use Rattle.std.specs.Prelude.{IfOk, List, ℕ, Option, Result, Ok, Err}
-use Rattle.std.specs.declared.fs.options.OpenOptions.{OpenOptions}
-use Rattle.std.specs.declared.io.Error.{Error as SystemError}
 use Rattle.sqlite.specs.Files.{Finds, file_state}
 use Rattle.sqlite.specs.Held.{Held}
 use Rattle.sqlite.specs.State.{HasCleanDisk}
@@ -38,9 +36,9 @@ kept_of : {K : Type 0} (k : KeeperGhosts K) (keeper : K) (kept : Option Cause) �
 kept_of k keeper kept tells = (tells.0, tells.2)
 
 -- what is told over files that keep why a call of them failed
-pub kept_why : {S K : Type 0} (g : Ghosts S) (makes : S → OpenOptions → List ℕ → Result Unit SystemError → Type 0) (k : KeeperGhosts K) (fs : S) (keeper : K) (path : List ℕ) (error : Error) (cause : Cause)
-    → IsWhyOver g makes k fs keeper path error cause → IsWhyKept g makes fs path error cause
-kept_why g makes k fs keeper path error cause why = record {
+pub kept_why : {S K : Type 0} (g : Ghosts S) (k : KeeperGhosts K) (fs : S) (keeper : K) (path : List ℕ) (error : Error) (cause : Cause)
+    → IsWhyOver g k fs keeper path error cause → IsWhyKept g fs path error cause
+kept_why g k fs keeper path error cause why = record {
   said = why.said;
   kept = why.kept;
   is_why = why.is_why;
@@ -56,11 +54,11 @@ over_images conn files (Err cause) opens = opens.found
 
 -- one that is opened in the files of a path is in them
 pub in_file : {A D S : Type 0} {d : DiskGhosts (Medium (Noted A) Image)} (conn : D → Held (FileStore (Medium (Noted A) Image) d))
-    (g : Ghosts S) (makes : S → OpenOptions → List ℕ → Result Unit SystemError → Type 0) (o : FileOpenerGhosts S A) (system : S) (path : List ℕ) (result : Result D Cause)
-    → OpensAt conn g makes o system path result → IfOk result (λ database. IsOverSystem (conn database))
-    → IfOk result (IsInFile conn g makes o path)
-in_file conn g makes o system path (Ok database) opens over = record { system = system; opens = opens; over = over }
-in_file conn g makes o system path (Err cause) opens over = over
+    (g : Ghosts S) (o : FileOpenerGhosts S A) (system : S) (path : List ℕ) (result : Result D Cause)
+    → OpensAt conn g o system path result → IfOk result (λ database. IsOverSystem (conn database))
+    → IfOk result (IsInFile conn g o path)
+in_file conn g o system path (Ok database) opens over = record { system = system; opens = opens; over = over }
+in_file conn g o system path (Err cause) opens over = over
 
 -- one that is opened in a copy of them is a copy
 pub copy_at : {A D S : Type 0} {d : DiskGhosts (Medium A Image)} (conn : D → Held (FileStore (Medium A Image) d))

@@ -5,12 +5,11 @@ ghost use Rattle.lot_files.specs.Opened.{IsOpenedFor, IsReady, IsSo};
 ghost use Rattle.lot_files.specs.Opener.{OpensCopy, OpensFor, OpensFull, OpensToRead};
 ghost use Rattle.lot_files.specs.Opener.{is_for_copy};
 ghost use Rattle.lot_files.specs.Opening.{IsCopyAt, IsInFile, opener_over};
-ghost use Rattle.lot_files.specs.System.{system_gives, system_makes};
+ghost use Rattle.lot_files.specs.System.{system_gives};
 ghost use Rattle.lot_files.specs.declared.opened.Database.{Database as DatabaseOf};
 
 use crate::cause::Cause;
 use crate::copy::open_copy;
-use crate::file_maker::FileMaker;
 use crate::file_opener::FileOpener;
 use crate::file_system::FileSystem;
 use crate::files::{is_empty, open};
@@ -68,7 +67,7 @@ impl<S> Drop for SystemOpener<'_, '_, S> {
     }
 }
 
-impl<'a, S: FileMaker + FileOpener<File = File>> Opener for SystemOpener<'a, '_, S> {
+impl<'a, S: FileSystem + FileOpener<File = File>> Opener for SystemOpener<'a, '_, S> {
     ghost use Rattle.lot_files.specs.Opening.{IsCopyAt, IsInFile, OpensAt, OpensCopyAt};
     ghost use Rattle.lot_files.specs.Opened.{IsReady};
     ghost use Rattle.lot_files.specs.Shown.{ShowsEmpty};
@@ -77,7 +76,7 @@ impl<'a, S: FileMaker + FileOpener<File = File>> Opener for SystemOpener<'a, '_,
     type Database = Database<'a>;
 
     ghost opens = { λ opener path result. OpensAt (λ (database : DatabaseOf). database.conn)
-        S.FileSystem S.FileMaker.opens S.FileOpener opener.system.now path result };
+        S.FileSystem S.FileOpener opener.system.now path result };
 
     ghost copies = { λ opener path result. OpensCopyAt (λ (database : DatabaseOf). database.conn)
         S.FileSystem opener.system.now path result };
@@ -85,8 +84,7 @@ impl<'a, S: FileMaker + FileOpener<File = File>> Opener for SystemOpener<'a, '_,
     ghost shows_empty = { λ opener path empty.
         ShowsEmpty S.FileSystem opener.system.now path empty };
 
-    ghost is_in = { IsInFile (λ (database : DatabaseOf). database.conn)
-        S.FileSystem S.FileMaker.opens S.FileOpener };
+    ghost is_in = { IsInFile (λ (database : DatabaseOf). database.conn) S.FileSystem S.FileOpener };
 
     ghost is_copy = { IsCopyAt (λ (database : DatabaseOf). database.conn) S.FileSystem };
 
@@ -113,10 +111,10 @@ pub fn open_book<'a>(
     failure: &'a Failure,
 ) -> Result<Opened<Database<'a>>, Cause>
     ensures opens { OpensFor (opener_over (λ (database : DatabaseOf). database.conn)
-        ⟦<HostRuntime as FileSystem>⟧ system_makes system_gives) rt.now access path.now result }
+        ⟦<HostRuntime as FileSystem>⟧ system_gives) rt.now access path.now result }
     ensures opened { IfOk result (IsOpenedFor
         (IsInFile (λ (database : DatabaseOf). database.conn) ⟦<HostRuntime as FileSystem>⟧
-        system_makes system_gives)
+        system_gives)
         (IsCopyAt (λ (database : DatabaseOf). database.conn) ⟦<HostRuntime as FileSystem>⟧)
         access path.now) }
     ensures ready { IfOk result (IsSo (λ database. IsReady database.conn)) }
@@ -125,7 +123,7 @@ pub fn open_book<'a>(
 }
 
 /// Opens the book in the file of that path of a system.
-fn open_of<'a, S: FileMaker + FileOpener<File = File>>(
+fn open_of<'a, S: FileSystem + FileOpener<File = File>>(
     system: &S,
     alloc: Global,
     path: &str,
@@ -133,10 +131,9 @@ fn open_of<'a, S: FileMaker + FileOpener<File = File>>(
     failure: &'a Failure,
 ) -> Result<Opened<Database<'a>>, Cause>
     ensures opens { OpensFor (opener_over (λ (database : DatabaseOf). database.conn) S.FileSystem
-        S.FileMaker.opens S.FileOpener) system.now access path.now result }
+        S.FileOpener) system.now access path.now result }
     ensures opened { IfOk result (IsOpenedFor
-        (IsInFile (λ (database : DatabaseOf). database.conn)
-        S.FileSystem S.FileMaker.opens S.FileOpener)
+        (IsInFile (λ (database : DatabaseOf). database.conn) S.FileSystem S.FileOpener)
         (IsCopyAt (λ (database : DatabaseOf). database.conn) S.FileSystem)
         access path.now) }
     ensures ready { IfOk result (IsSo (λ database. IsReady database.conn)) }

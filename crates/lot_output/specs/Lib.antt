@@ -1,4 +1,3 @@
 pub mod Course
 pub mod Heard
-pub mod Output
 pub mod Record

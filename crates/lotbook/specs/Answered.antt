@@ -13,7 +13,6 @@ use Rattle.lot_host.specs.Answers.{stopped}
 use Rattle.lot_input.specs.Input.{reading_between}
 use Rattle.lot_io.specs.Reads.{ReadCalls, ReadsMade, no_reads}
 use Rattle.lot_io.specs.Writes.{WriteCalls, WritesMade, no_writes}
-use Rattle.lot_output.specs.Output.{IsCutOff}
 
 -- the first calls of a reader, and of a writer
 abbrev pub reads_from_none : ReadCalls → ReadsMade
@@ -22,10 +21,10 @@ reads_from_none calls = record { before = Some no_reads; after = Some calls }
 abbrev pub writes_from_none : WriteCalls → WritesMade
 writes_from_none calls = record { before = Some no_writes; after = Some calls }
 
--- The writer holds all that a call wrote that ended with a status, and that is the status of the program. Or something of it is
--- missing there, and the program is stopped.
+-- The writer holds all that a call wrote that ended with a status, and that is the status of the program. Or it doesn't, and the
+-- program is stopped.
 abbrev pub IsHandedOn : ℕ → Option (List ℕ) → ℕ → Option (List ℕ) → Type 0
-IsHandedOn end told status written = ((status ≡ end) × (written ≡ told)) ⊎ ((status ≡ stopped) × IsCutOff told written)
+IsHandedOn end told status written = ((status ≡ end) × (written ≡ told)) ⊎ (status ≡ stopped)
 
 -- nothing is left open in a database, on a disk that returned what was written
 abbrev pub IsOutside : State → Type 0

@@ -1,15 +1,13 @@
 -- What a comparison of a new book with an old one comes to, and what a book that can't be taken up comes to.
 use Rattle.std.specs.Prelude.{◌≡◌, ◌⊎◌, ℕ, Bool, List, Option, Result, Ok, Err, IsTrue, None, Some}
 use Rattle.sqlite.specs.Held.{Held, state}
-use Rattle.sqlite.specs.State.{HasCleanDisk, State, Survives}
+use Rattle.sqlite.specs.State.{HasCleanDisk}
 use Rattle.sqlite.specs.Store.{Ghosts}
-use Rattle.lot_call.specs.Looks.{IsLookedAt}
 use Rattle.lot_cli.specs.Differ.{TellsDifferences}
 use Rattle.lot_cli.specs.Says.{Halts, told}
 use Rattle.lot_cli.specs.declared.halt.Halt.TheVariants as halt
 use Rattle.lot_io.specs.Writes.{WriteCalls}
 use Rattle.lot_store.specs.Create.{TellsOf}
-use Rattle.lot_store.specs.Step.{LeavesTables}
 use Rattle.lot_store.specs.declared.book.Book.{Book}
 use Rattle.lot_store.specs.declared.fault.AdoptFault.{AdoptFault}
 use Rattle.lot_store.specs.declared.fault.AdoptFault.TheVariants.{NotABook}
@@ -39,19 +37,7 @@ IsNoneTold fault served status = ((fault ≡ NotABook) × (status ≡ served)) �
 abbrev pub unlimited : {S : Type 0} → Held S → Held S
 unlimited conn = record conn { step_limit = None }
 
--- A book is only read: while the connection is open it shows what it showed, and the last commit stays. A crash leaves no more than
--- before.
-pub record IsOnlyRead (old new : State) : Type 0 where
-  pub left : HasCleanDisk new → LeavesTables old new
-  pub crash : Survives old new (λ _. ⊥)
-
 module _ {S : Type 0} (g : Ghosts S) where
-  -- a database is looked at, and the book that it holds is then only read, where it holds one
-  pub record IsReadBeside (opened left : Held S) : Type 0 where
-    pub taken : State
-    pub looked : IsLookedAt (state g (unlimited opened)) taken
-    pub read : IsOnlyRead taken (state g left)
-
   -- whether the database of a connection is a book, which leaves it so
   abbrev pub Adopts : Held S → Held S → Result (Unit {0}) AdoptFault → Type 0
   Adopts opened left result = HasCleanDisk (state g left) → TellsOf (state g opened) (state g left) result

@@ -13,7 +13,7 @@ ghost use Rattle.lot_files.specs.Opener.{OpensFor};
 ghost use Rattle.lot_files.specs.Opening.{IsCopyAt, IsInFile, OpensNothing, opener_over};
 ghost use Rattle.lot_files.specs.Path.{has_long_name};
 ghost use Rattle.lot_files.specs.Shown.{AllowsBook, ShowsMissing};
-ghost use Rattle.lot_files.specs.System.{system_gives, system_makes};
+ghost use Rattle.lot_files.specs.System.{system_gives};
 ghost use Rattle.lot_files.specs.declared.opened.Database.{Database as DatabaseOf};
 ghost use Rattle.lot_call.specs.Told.{Tells};
 ghost use Rattle.lot_host.specs.Answers.{stopped};
@@ -97,7 +97,7 @@ impl<'a> Host for System<'a> {
     type Old = Database<'a>;
 
     ghost is_in = { IsInFile (λ (database : DatabaseOf). database.conn)
-        ⟦<HostRuntime as FileSystem>⟧ system_makes system_gives };
+        ⟦<HostRuntime as FileSystem>⟧ system_gives };
 
     ghost copies = { IsCopyAt (λ (database : DatabaseOf). database.conn)
         ⟦<HostRuntime as FileSystem>⟧ };
@@ -116,8 +116,8 @@ impl<'a> Host for System<'a> {
         (λ cause. OpensNothing (λ (database : DatabaseOf). database.conn) (Err cause))
         (λ path cause. (rt : _) × AllowsBook ⟦<HostRuntime as FileSystem>⟧ rt path (Err cause))
         (λ access path cause. (rt : _) × OpensFor (opener_over
-        (λ (database : DatabaseOf). database.conn) ⟦<HostRuntime as FileSystem>⟧ system_makes
-        system_gives) rt access path (Err cause)) };
+        (λ (database : DatabaseOf). database.conn) ⟦<HostRuntime as FileSystem>⟧ system_gives)
+        rt access path (Err cause)) };
 
     ghost tells_unopened = { λ _ status. status ≡ stopped };
 

@@ -1,7 +1,5 @@
 use Rattle.std.proofs.Common.{inl, inr, subst}
-use Rattle.lot_call.proofs.LookLemmas.{looked_then}
 use Rattle.lotbook.specs.Compared.{ShowsNone}
-use Rattle.lotbook.proofs.ReadLemmas.{unread}
 use Rattle.lotbook.proofs.comparison.show_differences.Goals as goal
 
 pub returns-in-Ok-clause-told : goal.returns-in-Ok-clause-told
@@ -21,17 +19,3 @@ returns-in-Err-clause-told g c =
         comes_to = inr (inr (record { fault = c.in-Err.left.fault; left = c.in-Err.left.conn; none = c.in-Err.ensures.none; reported = told }));
       }
     ]
-
-pub returns-in-Ok-clause-left : goal.returns-in-Ok-clause-left
-returns-in-Ok-clause-left g c = record {
-  taken = _;
-  looked = c.in-Ok.ensures.looked;
-  read = rw c.into_connection.ensures.same c.show_beside-status.ensures.new_left;
-}
-
-pub returns-in-Err-clause-left : goal.returns-in-Err-clause-left
-returns-in-Err-clause-left g c = record {
-  taken = _;
-  looked = looked_then _ _ _ c.in-Err.ensures.handed_back c.show_none.ensures.looked;
-  read = unread _;
-}

@@ -9,6 +9,3 @@ returns-in_default-clause-told g c = inr c.refuse-status.ensures.reported
 
 pub returns-in_default-clause-ends : goal.returns-in_default-clause-ends
 returns-in_default-clause-ends g c = inr c.refuse-status.ensures.stops
-
-pub returns-in_default-clause-looked : goal.returns-in_default-clause-looked
-returns-in_default-clause-looked g c = c.refuse-status.ensures.looked
