@@ -4,7 +4,7 @@
 source "$(dirname "$(readlink -f "${BASH_SOURCE[0]}")")/lib/runs.sh"
 
 profile=examples/profile/maple.toml
-fixed=(--invest Assets:Maple --cash Assets:Maple:Cash --fees Expenses:Fees --gains Income:Gains)
+fixed=(--invest Assets:Maple:Shares --cash Assets:Maple:Cash --fees Expenses:Fees --gains Income:Gains)
 
 # trades COUNT FORM: so many trades, each purchase with its sale behind it; as the profile has them, the newest first, or in the
 # program's own format.

@@ -128,8 +128,20 @@ for words in "L17 L1" "Ambigous Ambiguous" "unknownacount UnknownAccount" "x X1"
         fail "no code: $word" "status $status: $(head -c 200 "$scratch/err")"
     fi
 done
+# What a profile may say: each key of the profiles of profiles/ is named, and the notes stand behind all else.
+run explain profile </dev/null
+if ((status == 0)) && [[ ! -s $scratch/err && $(tail -n 1 "$scratch/out") == "Columns: "* ]]; then
+    pass "a profile, with the notes"
+else
+    fail "a profile, with the notes" "status $status: $(tail -n 1 "$scratch/out")"
+fi
+sed -E -n 's/^([a-z-]+) *=.*/\1/p; s/^\[\[?([a-z.-]+)\]\]?.*/\1/p' "$root"/profiles/*.toml | tr . '\n' | sort -u >"$scratch/keys"
+unnamed=$(while IFS= read -r key; do grep -qwF -e "$key" "$scratch/out" || echo "$key"; done <"$scratch/keys")
+if [[ -s $scratch/keys && ! $unnamed ]]; then pass "the keys of profiles"; else fail "the keys of profiles" "$unnamed"; fi
 run_full explain </dev/null
 stops "all codes on a full disk"
+run_full explain profile </dev/null
+stops "a profile on a full disk"
 run_full explain B2 </dev/null
 stops "a code on a full disk"
 finish

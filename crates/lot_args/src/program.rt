@@ -9,7 +9,7 @@ use clap::Command;
 use std::alloc::{AllocError, Global};
 
 /// What `--version` prints behind the name of the program.
-const VERSION: &str = "1.0.0";
+const VERSION: &str = "1.1.0";
 
 /// A subcommand, or the program without one.
 struct Word {

@@ -8,7 +8,7 @@ use Rattle.lot_host.specs.Answers.{stopped}
 use Rattle.lot_profile_text.specs.Explained.{explained}
 use Rattle.lot_profile_text.specs.declared.keys.Section.{Section}
 use Rattle.lot_call.specs.Status.{status_shown, status_told}
-use Rattle.lot_call.specs.Told.{AppendsProfile, IsShownSo, TellsWord}
+use Rattle.lot_call.specs.Told.{AppendsProfile, AreAll, IsShownSo, TellsWord}
 
 -- what is so of an output is so of its writer, or not all was handed on
 pub shown_so : (So : Option (List ℕ) → Type 0) (shown : Result (Unit {0}) Error) (all written : Option (List ℕ)) (whole : Bool)
@@ -37,8 +37,8 @@ appends_kept (Some old) (Some now) (Some new) text appends keeps = keeps ∙ app
 
 -- all that a profile may say was written, and then flushed
 pub profile_kept : (flushed : Result (Unit {0}) Error) (before between written : Option (List ℕ)) (sections : List Section)
-    (notes : List (List ℕ)) (text : List ℕ) → text ≡ explained sections notes → Appends before between text → Keeps between written
-    → OnOk flushed (AppendsProfile before written)
-profile_kept (Ok done) before between written sections notes text is appends keeps =
-    (sections, notes, subst (Appends before written) is (appends_kept before between written text appends keeps))
-profile_kept (Err error) before between written sections notes text is appends keeps = tt
+    (notes : List (List ℕ)) (all : AreAll sections notes) (text : List ℕ) → text ≡ explained sections notes → Appends before between text
+    → Keeps between written → OnOk flushed (AppendsProfile before written)
+profile_kept (Ok done) before between written sections notes all text is appends keeps =
+    (sections, notes, all, subst (Appends before written) is (appends_kept before between written text appends keeps))
+profile_kept (Err error) before between written sections notes all text is appends keeps = tt

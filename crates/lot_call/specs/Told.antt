@@ -1,5 +1,5 @@
 -- What is told of codes and of profiles: what a writer holds then, and the status.
-use Rattle.std.specs.Prelude.{◌≡◌, ◌⊎◌, ℕ, Bool, false, true, List, Option, None, Some, Ok, codes}
+use Rattle.std.specs.Prelude.{◌≡◌, ◌⊎◌, ℕ, Bool, false, true, List, Option, None, Some, Ok, codes, length}
 use Rattle.std.specs.Io.KnownBytes.{Appends}
 use Rattle.std.specs.Str.{bytes_eq}
 use Rattle.lot_explain.specs.Explained.{Explains, Lists}
@@ -14,10 +14,14 @@ use Rattle.lot_call.specs.Status.{status_told}
 abbrev pub IsShownSo : (Option (List ℕ) → Type 0) → Option (List ℕ) → ℕ → Type 0
 IsShownSo So written status = ((status ≡ code_of Accepted) × So written) ⊎ (status ≡ stopped)
 
+-- no section of what a profile may say is left out, and no note behind them
+abbrev pub AreAll : List Section → List (List ℕ) → Type 0
+AreAll sections notes = (length sections ≡ 9) × (length notes ≡ 11)
+
 -- all that a profile may say is written
 abbrev pub AppendsProfile : Option (List ℕ) → Option (List ℕ) → Type 0
 AppendsProfile before written =
-    (sections : List Section) × (notes : List (List ℕ)) × Appends before written (explained sections notes)
+    (sections : List Section) × (notes : List (List ℕ)) × AreAll sections notes × Appends before written (explained sections notes)
 
 -- A word is explained by what it names, or not all could be written. Where it names nothing, nothing is written, and it can't be used.
 abbrev pub TellsWord : List ℕ → Option (List ℕ) → Option (List ℕ) → ℕ → Type 0

@@ -37,15 +37,8 @@ const BY_PROFILE: &str =
 /// The longest value of an option that is shown where it is bad, in bytes.
 const LONGEST_SHOWN: usize = 80;
 
-/// Returns the arguments, the program's name first. The error is the status of the program: why they can't be used is said.
-pub fn words(rt: &HostRuntime) -> Result<Vec<String>, u8>
-    ensures { IfErr result IsRefusal }
-{
-    words_of(rt, read_words(rt))
-}
-
 /// Returns the words that were read, as they are. Where they couldn't be read, the error is the status of the program: why is said.
-fn words_of(rt: &HostRuntime, read: io::Result<Vec<String>>) -> Result<Vec<String>, u8>
+pub fn words_of(rt: &HostRuntime, read: io::Result<Vec<String>>) -> Result<Vec<String>, u8>
     ensures words { IfOk read (λ words. result ≡ Ok words) }
     ensures refusal { IfErr result IsRefusal }
 {
@@ -55,8 +48,8 @@ fn words_of(rt: &HostRuntime, read: io::Result<Vec<String>>) -> Result<Vec<Strin
     }
 }
 
-/// Returns the arguments.
-fn read_words(rt: &HostRuntime) -> io::Result<Vec<String>> {
+/// Returns the arguments, the program's name first.
+pub fn read_words(rt: &HostRuntime) -> io::Result<Vec<String>> {
     Ok(all(rt.alloc(), env::args(rt)?)?)
 }
 

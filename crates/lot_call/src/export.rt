@@ -107,7 +107,7 @@ fn said_of(
                 profile,
                 row,
                 bytes,
-                "its day stands against the order of the profile: `order` says how rows stand, as \"by-day\"",
+                "its day stands against the order of the profile: `order` is \"newest-first\" or \"oldest-first\" as the file is sorted, \"by-day\" only where it isn't sorted by day",
             )
         }
         ExportFault::NothingLeft { row } => shown_row(

@@ -41,7 +41,7 @@ mod told;
 mod unpriced;
 mod watched;
 
-pub use arguments::{say_words_fault, warn, words};
+pub use arguments::{read_words, say_words_fault, warn, words_of};
 pub use call::{Call, rounding_of};
 pub use crumbs::Crumbs;
 pub use export::{say_aside, say_export_fault};

@@ -6,7 +6,7 @@ ghost use Rattle.lot_cli.specs.Check.{status_behind};
 ghost use Rattle.lot_cli.specs.Preview.{Counts, ServesWithGains, ServesWithPreview, TellsGains, TellsReport, outcome};
 ghost use Rattle.lot_cli.specs.Reports.{written_for};
 ghost use Rattle.lot_cli.specs.Says.{told};
-ghost use Rattle.lot_cli.specs.Serve.{EndsWith};
+ghost use Rattle.lot_cli.specs.Serve.{EndsWith, ReadsNothing};
 ghost use Rattle.lot_input.specs.Input.{reading_between};
 ghost use Rattle.lot_io.specs.Reads.{reads_between};
 ghost use Rattle.lot_stream.specs.Status.{IsStatus};
@@ -61,6 +61,7 @@ pub fn serve_with_preview<
     ensures outside { HasCleanDisk (state S.Store result.conn)
         → result.conn.in_transaction ≡ false }
     ensures status { EndsWith action.now result.status }
+    ensures unread { ReadsNothing action.now → reader.new ≡ reader.old }
 {
     match preview {
         Preview::Nothing => serve(alloc, action, reader, writer, progress, conn),
@@ -96,6 +97,7 @@ fn serve_with_gains<R: CountedRead, W: CountedWrite, P: Progress + Watch + Look 
     ensures outside { HasCleanDisk (state S.Store result.conn)
         → result.conn.in_transaction ≡ false }
     ensures status { EndsWith action.now result.status }
+    ensures unread { ReadsNothing action.now → reader.new ≡ reader.old }
 {
     let mut conn = conn;
     let before = count_entries(alloc, &mut conn);

@@ -8,38 +8,39 @@ use Rattle.lot_files.specs.declared.opened.Access.TheVariants.{Copy as ToTry, Re
 use Rattle.lot_files.specs.declared.opened.Opened.{Opened}
 use Rattle.lot_files.specs.declared.opener.Opener.{Ghosts}
 
-module _ {O S D : Type 0} (g : Ghosts O D) (h : Ghosts S D) (o : O) (s : S)
-    (opens : (path : List ℕ) (result : Result D Cause) → g.opens o path result → h.opens s path result)
-    (copies : (path : List ℕ) (result : Result D Cause) → g.copies o path result → h.copies s path result)
-    (shows : (path : List ℕ) (empty : Bool) → g.shows_empty o path empty → h.shows_empty s path empty) where
-  as_copy : (path : List ℕ) (result : Result (Opened D) Cause) → OpensCopy g o path result → OpensCopy h s path result
-  as_copy path result it = record { copied = it.copied; copies = copies path it.copied it.copies; told = it.told }
+module _ {O S D : Type 0} (g : Ghosts O D) (h : Ghosts S D) (of : O → S)
+    (opens : (o : O) (path : List ℕ) (result : Result D Cause) → g.opens o path result → h.opens (of o) path result)
+    (copies : (o : O) (path : List ℕ) (result : Result D Cause) → g.copies o path result → h.copies (of o) path result)
+    (shows : (o : O) (path : List ℕ) (empty : Bool) → g.shows_empty o path empty → h.shows_empty (of o) path empty) where
+  as_copy : (o : O) (path : List ℕ) (result : Result (Opened D) Cause) → OpensCopy g o path result → OpensCopy h (of o) path result
+  as_copy o path result it = record { copied = it.copied; copies = copies o path it.copied it.copies; told = it.told }
 
-  full_told : (path : List ℕ) (opened : Result D Cause) (result : Result (Opened D) Cause)
+  full_told : (o : O) (path : List ℕ) (opened : Result D Cause) (result : Result (Opened D) Cause)
       → ((wants_copy opened ≡ true) × OpensCopy g o path result) ⊎ ((wants_copy opened ≡ false) × (result ≡ as_file opened))
-      → ((wants_copy opened ≡ true) × OpensCopy h s path result) ⊎ ((wants_copy opened ≡ false) × (result ≡ as_file opened))
-  full_told path opened result (inl copied) = inl (copied.0, as_copy path result copied.1)
-  full_told path opened result (inr filed) = inr filed
+      → ((wants_copy opened ≡ true) × OpensCopy h (of o) path result) ⊎ ((wants_copy opened ≡ false) × (result ≡ as_file opened))
+  full_told o path opened result (inl copied) = inl (copied.0, as_copy o path result copied.1)
+  full_told o path opened result (inr filed) = inr filed
 
-  as_full : (path : List ℕ) (result : Result (Opened D) Cause) → OpensFull g o path result → OpensFull h s path result
-  as_full path result it = record {
+  as_full : (o : O) (path : List ℕ) (result : Result (Opened D) Cause) → OpensFull g o path result → OpensFull h (of o) path result
+  as_full o path result it = record {
     opened = it.opened;
-    opens = opens path it.opened it.opens;
-    told = full_told path it.opened result it.told;
+    opens = opens o path it.opened it.opens;
+    behind = of it.behind;
+    told = full_told it.behind path it.opened result it.told;
   }
 
-  read_told : (path : List ℕ) (empty : Bool) (result : Result (Opened D) Cause)
+  read_told : (o : O) (path : List ℕ) (empty : Bool) (result : Result (Opened D) Cause)
       → ((empty ≡ true) × OpensCopy g o path result) ⊎ ((empty ≡ false) × OpensFull g o path result)
-      → ((empty ≡ true) × OpensCopy h s path result) ⊎ ((empty ≡ false) × OpensFull h s path result)
-  read_told path empty result (inl copied) = inl (copied.0, as_copy path result copied.1)
-  read_told path empty result (inr full) = inr (full.0, as_full path result full.1)
+      → ((empty ≡ true) × OpensCopy h (of o) path result) ⊎ ((empty ≡ false) × OpensFull h (of o) path result)
+  read_told o path empty result (inl copied) = inl (copied.0, as_copy o path result copied.1)
+  read_told o path empty result (inr full) = inr (full.0, as_full o path result full.1)
 
-  pub opens_as : (access : Access) (path : List ℕ) (result : Result (Opened D) Cause)
-      → OpensFor g o access path result → OpensFor h s access path result
-  opens_as Write path result it = record { opened = it.opened; opens = opens path it.opened it.opens; told = it.told }
-  opens_as ToTry path result it = as_copy path result it
-  opens_as Read path result it = record {
+  pub opens_as : (o : O) (access : Access) (path : List ℕ) (result : Result (Opened D) Cause)
+      → OpensFor g o access path result → OpensFor h (of o) access path result
+  opens_as o Write path result it = record { opened = it.opened; opens = opens o path it.opened it.opens; told = it.told }
+  opens_as o ToTry path result it = as_copy o path result it
+  opens_as o Read path result it = record {
     empty = it.empty;
-    shows = shows path it.empty it.shows;
-    told = read_told path it.empty result it.told;
+    shows = shows o path it.empty it.shows;
+    told = read_told o path it.empty result it.told;
   }

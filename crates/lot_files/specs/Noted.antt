@@ -10,6 +10,7 @@ use Rattle.lot_files.specs.declared.cause.Cause.{Cause}
 use Rattle.lot_files.specs.declared.keeper.Keeper.{Ghosts}
 use Rattle.lot_files.specs.declared.medium.Medium.{Medium}
 use Rattle.lot_files.specs.declared.medium.Medium.TheVariants.{Memory, System}
+use Rattle.lot_files.specs.declared.noted.Failure.{Failure}
 use Rattle.lot_files.specs.declared.noted.Noted.{Noted}
 
 -- that a file ended says of no device why it failed
@@ -27,10 +28,6 @@ abbrev pub cause_kept : Option Error → Option Cause
 cause_kept None = None
 cause_kept (Some error) = Some (system_cause error)
 
--- it is what an error of the system says, or nothing
-abbrev pub IsKept : Option Cause → Type 0
-IsKept cause = (kept : Option Error) × (cause ≡ cause_kept kept)
-
 -- A cell may hold that error. No clause of the library says what one holds. This definition isn't opened but in the proofs of the calls
 -- that put an error there or take it: so what is said of one cell is never said of another.
 pub IsInCell : {C : Type 0} → C → Option Error → Type 0
@@ -43,6 +40,10 @@ in_cell cell kept = tt
 -- what the error says that a cell holds
 abbrev pub TellsCell : {C : Type 0} → C → Option Cause → Type 0
 TellsCell cell cause = (kept : Option Error) × IsInCell cell kept × (cause ≡ cause_kept kept)
+
+-- it is what the error says that some files keep, or nothing
+abbrev pub IsKept : Option Cause → Type 0
+IsKept cause = (failure : Failure) × TellsCell failure cause
 
 module _ {K : Type 0} (g : Ghosts K) where
   -- the error of a call is kept where there is one

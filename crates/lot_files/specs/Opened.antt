@@ -1,5 +1,5 @@
 -- A database that is opened: that of a file, or a copy of it, by what it is opened for.
-use Rattle.std.specs.Prelude.{◌≡◌, ◌⊎◌, ℕ, List, false, None}
+use Rattle.std.specs.Prelude.{◌≡◌, ◌⊎◌, ℕ, List, false, IfOk, None, Result, Ok, Err}
 use Rattle.sqlite.specs.Files.{Finds, file_state}
 use Rattle.sqlite.specs.Held.{Held}
 use Rattle.sqlite.specs.State.{HasCleanDisk}
@@ -33,6 +33,17 @@ module _ {D : Type 0} (is_in copies : List ℕ → D → Type 0) where
   IsFor Write path database = is_in path database
   IsFor ToTry path database = copies path database
   IsFor Read path database = is_in path database ⊎ copies path database
+
+-- The marks in the log of a connection begin with that number. No clause of the library says what it makes of the number. This
+-- definition isn't opened but in the proof of the call that hands the number over: so what is said of one number is never said of
+-- another.
+pub IsMarkedBy : {C : Type 0} → ℕ → C → Type 0
+IsMarkedBy number conn = Unit {0}
+
+pub marked_by : {C E : Type 0} (number : ℕ) (result : Result C E) → IfOk result (λ conn. IsMarkedBy number conn)
+unfolding IsMarkedBy
+marked_by number (Ok conn) = tt
+marked_by number (Err error) = tt
 
 -- a connection over two files shows what they held
 module _ {A B : Type 0} {g : Ghosts (Medium A B)} where

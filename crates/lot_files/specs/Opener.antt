@@ -29,37 +29,38 @@ module _ {D : Type 0} where
   as_copy (Ok database) = Ok (Copy database)
   as_copy (Err cause) = Err cause
 
-module _ {O D : Type 0} (g : Ghosts O D) (opener : O) where
+module _ {O D : Type 0} (g : Ghosts O D) where
   -- a copy is opened
-  pub record OpensCopy (path : List ℕ) (result : Result (Opened D) Cause) : Type 0 where
+  pub record OpensCopy (opener : O) (path : List ℕ) (result : Result (Opened D) Cause) : Type 0 where
     pub copied : Result D Cause
     pub copies : g.copies opener path copied
     pub told : result ≡ as_copy copied
 
   -- the file is opened
-  pub record OpensFile (path : List ℕ) (result : Result (Opened D) Cause) : Type 0 where
+  pub record OpensFile (opener : O) (path : List ℕ) (result : Result (Opened D) Cause) : Type 0 where
     pub opened : Result D Cause
     pub opens : g.opens opener path opened
     pub told : result ≡ as_file opened
 
-  -- one that isn't empty is opened, or copied where it can't be opened to be written
-  pub record OpensFull (path : List ℕ) (result : Result (Opened D) Cause) : Type 0 where
+  -- one that isn't empty is opened, or copied behind that where it can't be opened to be written
+  pub record OpensFull (opener : O) (path : List ℕ) (result : Result (Opened D) Cause) : Type 0 where
     pub opened : Result D Cause
     pub opens : g.opens opener path opened
+    pub behind : O
     pub told :
-        ((wants_copy opened ≡ true) × OpensCopy path result)
+        ((wants_copy opened ≡ true) × OpensCopy behind path result)
         ⊎ ((wants_copy opened ≡ false) × (result ≡ as_file opened))
 
   -- to be read, an empty file is copied, so that nothing is written to it
-  pub record OpensToRead (path : List ℕ) (result : Result (Opened D) Cause) : Type 0 where
+  pub record OpensToRead (opener : O) (path : List ℕ) (result : Result (Opened D) Cause) : Type 0 where
     pub empty : Bool
     pub shows : g.shows_empty opener path empty
     pub told :
-        ((empty ≡ true) × OpensCopy path result)
-        ⊎ ((empty ≡ false) × OpensFull path result)
+        ((empty ≡ true) × OpensCopy opener path result)
+        ⊎ ((empty ≡ false) × OpensFull opener path result)
 
   -- to be written the file, to be tried on a copy
-  abbrev pub OpensFor : Access → List ℕ → Result (Opened D) Cause → Type 0
-  OpensFor Write path result = OpensFile path result
-  OpensFor ToTry path result = OpensCopy path result
-  OpensFor Read path result = OpensToRead path result
+  abbrev pub OpensFor : O → Access → List ℕ → Result (Opened D) Cause → Type 0
+  OpensFor opener Write path result = OpensFile opener path result
+  OpensFor opener ToTry path result = OpensCopy opener path result
+  OpensFor opener Read path result = OpensToRead opener path result

@@ -1,5 +1,7 @@
 -- What it comes to that the database of a book is opened: in the files of a path, or in a copy of them in memory.
 use Rattle.std.specs.Prelude.{◌≡◌, ◌⊎◌, ℕ, List, IfErr, IfOk, Option, None, Some, Result, Ok, Err}
+use Rattle.std.specs.declared.fs.options.OpenOptions.{OpenOptions}
+use Rattle.std.specs.declared.io.Error.{Error as SystemError}
 use Rattle.sqlite.specs.Files.{FailsToOpenFiles, Finds, IsCleanLeft, file_state}
 use Rattle.sqlite.specs.Held.{Held}
 use Rattle.sqlite.specs.State.{HasCleanDisk}
@@ -16,7 +18,7 @@ use Rattle.lot_files.specs.Copy.{IsCopied, IsUncopied, reads_files}
 use Rattle.lot_files.specs.Image.{HoldNothing}
 use Rattle.lot_files.specs.Medium.{in_memory}
 use Rattle.lot_files.specs.Noted.{AreNoted}
-use Rattle.lot_files.specs.Opened.{IsOverMemory, IsOverSystem, IsReady}
+use Rattle.lot_files.specs.Opened.{IsMarkedBy, IsOverMemory, IsOverSystem, IsReady}
 use Rattle.lot_files.specs.Refusal.{IsWhy, IsWhyKept}
 use Rattle.lot_files.specs.Shown.{IsOriginal, IsRefused, ShowsEmpty}
 use Rattle.lot_files.specs.declared.cause.Cause.{Cause}
@@ -82,47 +84,48 @@ module _ {A D : Type 0} {d : DiskGhosts (Medium A Image)} (conn : D → Held (Fi
       pub over : IsOverMemory (conn database)
 
 module _ {A D S : Type 0} {d : DiskGhosts (Medium (Noted A) Image)} (conn : D → Held (FileStore (Medium (Noted A) Image) d))
-    (g : Ghosts S) (fs : S) where
+    (g : Ghosts S) (makes : S → OpenOptions → List ℕ → Result Unit SystemError → Type 0) (fs : S) where
   -- it isn't opened for that error, and why is told
   abbrev IsNotOpened : List ℕ → Error → Result D Cause → Type 0
-  IsNotOpened path error result = (cause : Cause) × IsWhy g fs path error cause × (result ≡ Err cause)
+  IsNotOpened path error result = (cause : Cause) × IsWhy g makes fs path error cause × (result ≡ Err cause)
 
-  -- it is opened in files of the system, which keep why a call of them failed
-  pub record OpensNoted (path : List ℕ) (files : Files A) (result : Result D Cause) : Type 0 where
+  -- it is opened in files of the system, which keep why a call of them failed, and the marks in its log begin with that number
+  pub record OpensNoted (path : List ℕ) (files : Files A) (number : ℕ) (result : Result D Cause) : Type 0 where
     pub noted : Files (Medium (Noted A) Image)
     pub are : AreNoted files noted
-    pub opens : OpensFiles conn (IsWhyKept g fs path) noted result
+    pub opens : OpensFiles conn (IsWhyKept g makes fs path) noted result
+    pub marked : IfOk result (λ database. IsMarkedBy number (conn database))
 
 module _ {A D S : Type 0} {d : DiskGhosts (Medium (Noted A) Image)} (conn : D → Held (FileStore (Medium (Noted A) Image) d))
-    (g : Ghosts S) (o : FileOpenerGhosts S A) (system : S) where
-  -- the same, where a number can be drawn for it
+    (g : Ghosts S) (makes : S → OpenOptions → List ℕ → Result Unit SystemError → Type 0) (o : FileOpenerGhosts S A) (system : S) where
+  -- the same with a number that is drawn, where one can be
   pub record OpensGiven (path : List ℕ) (files : Files A) (result : Result D Cause) : Type 0 where
     pub seed : Option ℕ
     pub draws : o.draws system seed
     pub told :
-        (IsNotOpened conn g system path (SqliteFailure code.CannotOpen) result × (seed ≡ None))
-        ⊎ ((number : ℕ) × OpensNoted conn g system path files result × (seed ≡ Some number))
+        (IsNotOpened conn g makes system path (SqliteFailure code.CannotOpen) result × (seed ≡ None))
+        ⊎ ((number : ℕ) × OpensNoted conn g makes system path files number result × (seed ≡ Some number))
 
   -- the database in the files of a path is opened
   pub record OpensAt (path : List ℕ) (result : Result D Cause) : Type 0 where
     pub files : Result (Files A) OpenError
     pub gives : o.gives system path files
     pub told :
-        ((error : OpenError) × IsNotOpened conn g system path (opening_error error) result × (files ≡ Err error))
+        ((error : OpenError) × IsNotOpened conn g makes system path (opening_error error) result × (files ≡ Err error))
         ⊎ ((found : Files A) × OpensGiven path found result × (files ≡ Ok found))
 
 module _ {A D S : Type 0} {d : DiskGhosts (Medium (Noted A) Image)} (conn : D → Held (FileStore (Medium (Noted A) Image) d))
-    (g : Ghosts S) (o : FileOpenerGhosts S A) where
+    (g : Ghosts S) (makes : S → OpenOptions → List ℕ → Result Unit SystemError → Type 0) (o : FileOpenerGhosts S A) where
   -- the database is the one in the files of a path: what is written goes there
   pub record IsInFile (path : List ℕ) (database : D) : Type 0 where
     pub system : S
-    pub opens : OpensAt conn g o system path (Ok database)
+    pub opens : OpensAt conn g makes o system path (Ok database)
     pub over : IsOverSystem (conn database)
 
   -- the system as what opens the databases of books
   abbrev pub opener_over : OpenerGhosts S D
   opener_over = record {
-    opens = λ system path result. OpensAt conn g o system path result;
+    opens = λ system path result. OpensAt conn g makes o system path result;
     copies = λ system path result. OpensCopyAt conn g system path result;
     shows_empty = λ system path empty. ShowsEmpty g system path empty;
     is_in = IsInFile;

@@ -40,10 +40,10 @@ abbrev pub refusal_of : Result Unit Cause → Cause
 refusal_of (Ok done) = Library code.CannotOpen
 refusal_of (Err cause) = cause
 
-module _ {S : Type 0} (g : Ghosts S) (fs : S) where
+module _ {S : Type 0} (g : Ghosts S) (opens : S → OpenOptions → List ℕ → Result Unit SystemError → Type 0) (fs : S) where
   -- a file is opened so
   abbrev pub OpensFile : OpenOptions → List ℕ → Result Unit Cause → Type 0
-  OpensFile how path result = (opened : Result Unit SystemError) × g.opens fs how path opened × (result ≡ refused_for opened)
+  OpensFile how path result = (opened : Result Unit SystemError) × opens fs how path opened × (result ≡ refused_for opened)
 
   -- a file is opened, or made where nothing has the path
   pub record TriesFile (path : List ℕ) (result : Result Unit Cause) : Type 0 where
@@ -95,11 +95,11 @@ module _ {S : Type 0} (g : Ghosts S) (fs : S) where
     pub is_kept : IsKept kept
     pub told : cause ≡ cause_or said kept
 
-module _ {S K : Type 0} (g : Ghosts S) (k : KeeperGhosts K) (fs : S) (keeper : K) where
+module _ {S K : Type 0} (g : Ghosts S) (opens : S → OpenOptions → List ℕ → Result Unit SystemError → Type 0) (k : KeeperGhosts K) (fs : S) (keeper : K) where
   -- the same over files that keep it there
   pub record IsWhyOver (path : List ℕ) (error : Error) (cause : Cause) : Type 0 where
     pub said : Cause
     pub kept : Option Cause
-    pub is_why : IsWhy g fs path error said
+    pub is_why : IsWhy g opens fs path error said
     pub tells : TellsKept k keeper kept
     pub told : cause ≡ cause_or said kept

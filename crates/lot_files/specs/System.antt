@@ -1,8 +1,9 @@
 -- What the system answers. No clause of the library says what there is at a path, so that any answer may be the system's. This
 -- definition isn't opened but in the proofs of the system's own calls: so what is said of the answer for one path, or of one call, is
 -- never said of another.
-use Rattle.std.specs.Prelude.{List, ℕ, Option}
+use Rattle.std.specs.Prelude.{List, ℕ, Option, Result}
 use Rattle.std.specs.declared.fs.options.OpenOptions.{OpenOptions}
+use Rattle.std.specs.declared.io.Error.{Error}
 use Rattle.lot_files.specs.declared.file_system.FileSystem.{Ghosts}
 use Rattle.lot_files.specs.declared.file_opener.FileOpener.{Ghosts as OpenerGhosts}
 
@@ -35,8 +36,11 @@ system_shows = record {
   begins = λ system path first. Answers (Begins path) first;
   heads = λ system path head. Answers (Heads path) head;
   holds = λ system path bytes. Answers (Holds path) bytes;
-  opens = λ system how path opened. Answers (Opens how path) opened;
 }
+
+-- how it opens files to be written
+abbrev pub system_makes : {S : Type 0} → S → OpenOptions → List ℕ → Result Unit Error → Type 0
+system_makes system how path opened = Answers (Opens how path) opened
 
 -- the number that it draws
 abbrev pub system_draws : {S : Type 0} → S → Option ℕ → Type 0

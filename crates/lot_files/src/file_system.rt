@@ -2,13 +2,12 @@
 
 ghost use Rattle.std.specs.Prelude.{◌≡◌, ◌↔◌, ℕ, List, IsTrue, Option, Result};
 ghost use Rattle.std.specs.Fs.{IsDir, IsFile, file_type, metadata_len};
-ghost use Rattle.std.specs.declared.fs.options.OpenOptions.{OpenOptions as OptionsOf};
 ghost use Rattle.std.specs.declared.io.Error.{Error as ErrorOf};
 ghost use Rattle.lot_files.specs.Entry.{bytes_in, is_absent, is_file, is_file_of, is_folder};
 ghost use Rattle.lot_files.specs.Entry.{of_file, of_folder, says_absent, text_in};
 ghost use Rattle.lot_files.specs.declared.file_system.Entry.{Entry as EntryOf};
 
-use std::fs::{self, OpenOptions};
+use std::fs;
 use std::io::{self, ErrorKind, Read};
 use std::os::unix::fs::MetadataExt;
 
@@ -116,7 +115,8 @@ pub(crate) fn says_absent(error: &io::Error) -> bool
     error.kind() == ErrorKind::NotFound
 }
 
-/// A file system: what it shows of paths, which others may change from one call to the next.
+/// A file system: what it shows of paths, which others may change from one call to the next. What only looks at one can't
+/// open a file to be written, nor make one.
 ///
 /// Each ghost member says what the system may answer of a path.
 pub trait FileSystem {
@@ -137,9 +137,6 @@ pub trait FileSystem {
 
     // All its bytes.
     ghost holds: { Self → List ℕ → Result (List ℕ) ErrorOf → Type 0 };
-
-    // A file of that path is opened so.
-    ghost opens: { Self → OptionsOf → List ℕ → Result Unit ErrorOf → Type 0 };
 
     /// Returns what the path leads to, through links.
     fn metadata(&self, path: &str) -> io::Result<Entry>
@@ -164,10 +161,6 @@ pub trait FileSystem {
     /// Reads the file to which the path leads.
     fn read(&self, path: &str) -> io::Result<Vec<u8>>
         ensures { holds self.now path.now (bytes_in result) };
-
-    /// Opens a file, and closes it again.
-    fn open(&self, how: &OpenOptions, path: &str) -> io::Result<()>
-        ensures { opens self.now how.now path.now result };
 }
 
 /// The system. No contract of its calls says what there is at a path.
@@ -185,8 +178,6 @@ impl FileSystem for HostRuntime {
     ghost heads = { system_shows.heads };
 
     ghost holds = { system_shows.holds };
-
-    ghost opens = { system_shows.opens };
 
     fn metadata(&self, path: &str) -> io::Result<Entry> {
         Ok(Entry::of(&fs::metadata(self, path)?))
@@ -214,10 +205,5 @@ impl FileSystem for HostRuntime {
 
     fn read(&self, path: &str) -> io::Result<Vec<u8>> {
         fs::read(self, path)
-    }
-
-    fn open(&self, how: &OpenOptions, path: &str) -> io::Result<()> {
-        let _file = how.open(self, path)?;
-        Ok(())
     }
 }

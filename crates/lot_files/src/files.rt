@@ -1,11 +1,14 @@
 //! The files of a book: its own, and its log beside it; and what a path of one leads to.
 
-ghost use Rattle.std.specs.Prelude.{◌≡◌, false, IfOk, IsOk, IsTrue, option_copied};
+ghost use Rattle.std.specs.Prelude.{◌≡◌, false, IfErr, IfOk, IsOk, IsTrue, option_copied};
 ghost use Rattle.std.specs.String.{string_bytes};
+ghost use Rattle.sqlite.specs.Files.{FailsToOpenFiles, Finds, IsCleanLeft, file_state};
+ghost use Rattle.sqlite.specs.Held.{IsNew};
+ghost use Rattle.sqlite.specs.State.{HasCleanDisk};
 ghost use Rattle.lot_files.specs.Cause.{opening_error};
 ghost use Rattle.lot_files.specs.Entry.{zero_byte};
 ghost use Rattle.lot_files.specs.Noted.{AreNoted};
-ghost use Rattle.lot_files.specs.Opened.{IsOverSystem, IsReady};
+ghost use Rattle.lot_files.specs.Opened.{IsMarkedBy, IsOverSystem, IsReady};
 ghost use Rattle.lot_files.specs.Opening.{OpensAt, OpensGiven, OpensNoted};
 ghost use Rattle.lot_files.specs.Path.{folder_of, has_long_name, library_path, names_file};
 ghost use Rattle.lot_files.specs.Path.{names_no_file};
@@ -14,13 +17,14 @@ ghost use Rattle.lot_files.specs.Shown.{ShowsMissing};
 ghost use Rattle.lot_files.specs.declared.opened.Database.{Database as DatabaseOf};
 
 use crate::cause::Cause;
+use crate::file_maker::FileMaker;
 use crate::file_opener::FileOpener;
 use crate::file_system::{FileSystem, is_absent, is_file_of, is_folder};
 use crate::medium::Medium;
 use crate::noted::{Failure, Noted};
 use crate::opened::{BookFile, Database};
 use crate::refusal::{why, why_over};
-use sqlite::{Connection, Error, ErrorCode, File, Files, Options};
+use sqlite::{Connection, Error, ErrorCode, File, FileStore, Files, Leftover, Options};
 use sqlite_disk::Disk;
 use sqlite_std_file::OpenError;
 use std::alloc::{AllocError, Global};
@@ -43,7 +47,7 @@ const CANNOT_OPEN: Error = Error::SqliteFailure(ErrorCode::CannotOpen);
 
 /// Opens the database in the file of that path, and makes one where there is none. The files keep
 /// there why a call of them failed.
-pub(crate) fn open<'a, S: FileSystem + FileOpener<File = File>>(
+pub(crate) fn open<'a, S: FileMaker + FileOpener<File = File>>(
     system: &S,
     alloc: Global,
     path: &str,
@@ -51,8 +55,8 @@ pub(crate) fn open<'a, S: FileSystem + FileOpener<File = File>>(
 ) -> Result<Database<'a>, Cause>
     ensures ready { IfOk result (λ database. IsReady database.conn) }
     ensures over { IfOk result (λ database. IsOverSystem database.conn) }
-    ensures opens { OpensAt (λ (database : DatabaseOf). database.conn) S.FileSystem S.FileOpener
-        system.now path.now result }
+    ensures opens { OpensAt (λ (database : DatabaseOf). database.conn)
+        S.FileSystem S.FileMaker.opens S.FileOpener system.now path.now result }
 {
     match system.open_files(path) {
         Ok(files) => open_given(system, alloc, path, files, failure),
@@ -62,7 +66,7 @@ pub(crate) fn open<'a, S: FileSystem + FileOpener<File = File>>(
 
 /// Opens the database in the files of that path, which are open. They keep there why a call of them
 /// failed.
-fn open_given<'a, S: FileSystem + FileOpener<File = File>>(
+fn open_given<'a, S: FileMaker + FileOpener<File = File>>(
     system: &S,
     alloc: Global,
     path: &str,
@@ -73,8 +77,8 @@ fn open_given<'a, S: FileSystem + FileOpener<File = File>>(
     requires db { IsTrue (⟦<File as Disk>⟧.is_usable files.db) }
     ensures ready { IfOk result (λ database. IsReady database.conn) }
     ensures over { IfOk result (λ database. IsOverSystem database.conn) }
-    ensures opens { OpensGiven (λ (database : DatabaseOf). database.conn) S.FileSystem S.FileOpener
-        system.now path.now files result }
+    ensures opens { OpensGiven (λ (database : DatabaseOf). database.conn)
+        S.FileSystem S.FileMaker.opens S.FileOpener system.now path.now files result }
 {
     match system.seed() {
         Some(number) => open_noted(system, alloc, path, files, number, failure),
@@ -83,7 +87,7 @@ fn open_given<'a, S: FileSystem + FileOpener<File = File>>(
 }
 
 /// Opens the database in them. The marks in the log begin with that number.
-fn open_noted<'a, F: FileSystem>(
+fn open_noted<'a, F: FileMaker>(
     fs: &F,
     alloc: Global,
     path: &str,
@@ -95,17 +99,41 @@ fn open_noted<'a, F: FileSystem>(
     requires db { IsTrue (⟦<File as Disk>⟧.is_usable files.db) }
     ensures ready { IfOk result (λ database. IsReady database.conn) }
     ensures over { IfOk result (λ database. IsOverSystem database.conn) }
-    ensures opens { OpensNoted (λ (database : DatabaseOf). database.conn) F.FileSystem
-        fs.now path.now files result }
+    ensures opens { OpensNoted (λ (database : DatabaseOf). database.conn)
+        F.FileSystem F.FileMaker.opens fs.now path.now files number result }
 {
-    let options = Options {
+    match open_marked(alloc, noted(files, failure), options_of(number)) {
+        Ok(conn) => Ok(Database { conn }),
+        Err((error, _left)) => Err(why_over(fs, alloc, path, error, &failure)),
+    }
+}
+
+/// Opens the database in these files, with these options.
+fn open_marked<'a>(
+    alloc: Global,
+    files: Files<BookFile<'a>>,
+    options: Options,
+) -> Result<Connection<FileStore<BookFile<'a>>>, (Error, Leftover<BookFile<'a>>)>
+    requires log { IsTrue (⟦<BookFile<'a> as Disk>⟧.is_usable files.log) }
+    requires db { IsTrue (⟦<BookFile<'a> as Disk>⟧.is_usable files.db) }
+    ensures fresh { IfOk result IsNew }
+    ensures found { IfOk result (λ conn. HasCleanDisk (file_state conn) → Finds files.entry conn) }
+    ensures fails { IfErr result (λ e. IsCleanLeft e.1 → FailsToOpenFiles files.entry e.1 e.0) }
+    ensures marked { IfOk result (λ conn. IsMarkedBy options.seed conn) }
+{
+    Connection::open_files(alloc, files, options)
+}
+
+/// Returns how the files of a book are used. The marks in the log begin with that number, and a log of 1,000 frames is copied into
+/// the file.
+fn options_of(number: u64) -> Options
+    ensures seed { result.seed ≡ number }
+    ensures log { result.checkpoint_frames ≡ 1000 }
+{
+    Options {
         cache_pages: CACHE_PAGES,
         spill_pages: SPILL_PAGES,
         ..Options::new(number)
-    };
-    match Connection::open_files(alloc, noted(files, failure), options) {
-        Ok(conn) => Ok(Database { conn }),
-        Err((error, _left)) => Err(why_over(fs, alloc, path, error, &failure)),
     }
 }
 

@@ -1,6 +1,6 @@
 //! The files of a book, as the program opens them, or why it can't.
 //!
-//! - `file_system`: what a file system shows of paths; `file_opener`: what opens the files of books; `files`, `located`: the files of a book there, and what may stand in their place.
+//! - `file_system`: what a file system shows of paths; `file_maker`: what opens files to be written; `file_opener`: what opens the files of books; `files`, `located`: the files of a book there, and what may stand in their place.
 //! - `cause`: why a book can't be opened; `refusal`: what the library or the system says of that.
 //! - `copy`: a copy of a book in memory; `source`: where its files are read for that.
 //! - `image`: a file in memory; `medium`: a file there or of the system.
@@ -10,6 +10,7 @@
 
 mod cause;
 mod copy;
+mod file_maker;
 mod file_opener;
 mod file_system;
 mod files;

@@ -5,11 +5,12 @@ ghost use Rattle.lot_files.specs.Opened.{IsOpenedFor, IsReady, IsSo};
 ghost use Rattle.lot_files.specs.Opener.{OpensCopy, OpensFor, OpensFull, OpensToRead};
 ghost use Rattle.lot_files.specs.Opener.{is_for_copy};
 ghost use Rattle.lot_files.specs.Opening.{IsCopyAt, IsInFile, opener_over};
-ghost use Rattle.lot_files.specs.System.{system_gives};
+ghost use Rattle.lot_files.specs.System.{system_gives, system_makes};
 ghost use Rattle.lot_files.specs.declared.opened.Database.{Database as DatabaseOf};
 
 use crate::cause::Cause;
 use crate::copy::open_copy;
+use crate::file_maker::FileMaker;
 use crate::file_opener::FileOpener;
 use crate::file_system::FileSystem;
 use crate::files::{is_empty, open};
@@ -67,7 +68,7 @@ impl<S> Drop for SystemOpener<'_, '_, S> {
     }
 }
 
-impl<'a, S: FileSystem + FileOpener<File = File>> Opener for SystemOpener<'a, '_, S> {
+impl<'a, S: FileMaker + FileOpener<File = File>> Opener for SystemOpener<'a, '_, S> {
     ghost use Rattle.lot_files.specs.Opening.{IsCopyAt, IsInFile, OpensAt, OpensCopyAt};
     ghost use Rattle.lot_files.specs.Opened.{IsReady};
     ghost use Rattle.lot_files.specs.Shown.{ShowsEmpty};
@@ -76,7 +77,7 @@ impl<'a, S: FileSystem + FileOpener<File = File>> Opener for SystemOpener<'a, '_
     type Database = Database<'a>;
 
     ghost opens = { λ opener path result. OpensAt (λ (database : DatabaseOf). database.conn)
-        S.FileSystem S.FileOpener opener.system.now path result };
+        S.FileSystem S.FileMaker.opens S.FileOpener opener.system.now path result };
 
     ghost copies = { λ opener path result. OpensCopyAt (λ (database : DatabaseOf). database.conn)
         S.FileSystem opener.system.now path result };
@@ -84,13 +85,14 @@ impl<'a, S: FileSystem + FileOpener<File = File>> Opener for SystemOpener<'a, '_
     ghost shows_empty = { λ opener path empty.
         ShowsEmpty S.FileSystem opener.system.now path empty };
 
-    ghost is_in = { IsInFile (λ (database : DatabaseOf). database.conn) S.FileSystem S.FileOpener };
+    ghost is_in = { IsInFile (λ (database : DatabaseOf). database.conn)
+        S.FileSystem S.FileMaker.opens S.FileOpener };
 
     ghost is_copy = { IsCopyAt (λ (database : DatabaseOf). database.conn) S.FileSystem };
 
     ghost is_ready = { λ database. IsReady database.conn };
 
-    fn open(&self, path: &str) -> Result<Self::Database, Cause> {
+    fn open(&mut self, path: &str) -> Result<Self::Database, Cause> {
         open(self.system, self.alloc, path, self.failure)
     }
 
@@ -111,10 +113,10 @@ pub fn open_book<'a>(
     failure: &'a Failure,
 ) -> Result<Opened<Database<'a>>, Cause>
     ensures opens { OpensFor (opener_over (λ (database : DatabaseOf). database.conn)
-        ⟦<HostRuntime as FileSystem>⟧ system_gives) rt.now access path.now result }
+        ⟦<HostRuntime as FileSystem>⟧ system_makes system_gives) rt.now access path.now result }
     ensures opened { IfOk result (IsOpenedFor
         (IsInFile (λ (database : DatabaseOf). database.conn) ⟦<HostRuntime as FileSystem>⟧
-        system_gives)
+        system_makes system_gives)
         (IsCopyAt (λ (database : DatabaseOf). database.conn) ⟦<HostRuntime as FileSystem>⟧)
         access path.now) }
     ensures ready { IfOk result (IsSo (λ database. IsReady database.conn)) }
@@ -123,7 +125,7 @@ pub fn open_book<'a>(
 }
 
 /// Opens the book in the file of that path of a system.
-fn open_of<'a, S: FileSystem + FileOpener<File = File>>(
+fn open_of<'a, S: FileMaker + FileOpener<File = File>>(
     system: &S,
     alloc: Global,
     path: &str,
@@ -131,26 +133,32 @@ fn open_of<'a, S: FileSystem + FileOpener<File = File>>(
     failure: &'a Failure,
 ) -> Result<Opened<Database<'a>>, Cause>
     ensures opens { OpensFor (opener_over (λ (database : DatabaseOf). database.conn) S.FileSystem
-        S.FileOpener) system.now access path.now result }
+        S.FileMaker.opens S.FileOpener) system.now access path.now result }
     ensures opened { IfOk result (IsOpenedFor
-        (IsInFile (λ (database : DatabaseOf). database.conn) S.FileSystem S.FileOpener)
+        (IsInFile (λ (database : DatabaseOf). database.conn)
+        S.FileSystem S.FileMaker.opens S.FileOpener)
         (IsCopyAt (λ (database : DatabaseOf). database.conn) S.FileSystem)
         access path.now) }
     ensures ready { IfOk result (IsSo (λ database. IsReady database.conn)) }
 {
-    let opener = SystemOpener {
+    let mut opener = SystemOpener {
         system,
         alloc,
         failure,
     };
-    open_for(&opener, path, access)
+    open_for(&mut opener, path, access)
 }
 
-/// Opens it by what it is opened for.
-fn open_for<O: Opener>(opener: &O, path: &str, access: Access) -> Result<Opened<O::Database>, Cause>
-    ensures opens { OpensFor O.Opener opener.now access path.now result }
+/// Opens it by what it is opened for. To be tried on no file is opened, but a copy.
+fn open_for<O: Opener>(
+    opener: &mut O,
+    path: &str,
+    access: Access,
+) -> Result<Opened<O::Database>, Cause>
+    ensures opens { OpensFor O.Opener opener.old access path.now result }
     ensures opened { IfOk result (IsOpenedFor O.is_in O.is_copy access path.now) }
     ensures ready { IfOk result (IsSo O.is_ready) }
+    ensures looked { access ≡ Access.Copy → opener.new ≡ opener.old }
 {
     match access {
         Access::Write => Ok(Opened::File(opener.open(path)?)),
@@ -170,8 +178,8 @@ fn copy_of<O: Opener>(opener: &O, path: &str) -> Result<Opened<O::Database>, Cau
 }
 
 /// Opens it to be read.
-fn open_to_read<O: Opener>(opener: &O, path: &str) -> Result<Opened<O::Database>, Cause>
-    ensures opens { OpensToRead O.Opener opener.now path.now result }
+fn open_to_read<O: Opener>(opener: &mut O, path: &str) -> Result<Opened<O::Database>, Cause>
+    ensures opens { OpensToRead O.Opener opener.old path.now result }
     ensures opened { IfOk result (IsOpenedFor O.is_in O.is_copy Access.Read path.now) }
     ensures ready { IfOk result (IsSo O.is_ready) }
 {
@@ -183,8 +191,8 @@ fn open_to_read<O: Opener>(opener: &O, path: &str) -> Result<Opened<O::Database>
 
 /// Opens one that isn't empty to be read: its file, or a copy where that can't be opened to be
 /// written.
-fn full_of<O: Opener>(opener: &O, path: &str) -> Result<Opened<O::Database>, Cause>
-    ensures opens { OpensFull O.Opener opener.now path.now result }
+fn full_of<O: Opener>(opener: &mut O, path: &str) -> Result<Opened<O::Database>, Cause>
+    ensures opens { OpensFull O.Opener opener.old path.now result }
     ensures opened { IfOk result (IsOpenedFor O.is_in O.is_copy Access.Read path.now) }
     ensures ready { IfOk result (IsSo O.is_ready) }
 {

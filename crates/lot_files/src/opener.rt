@@ -28,9 +28,9 @@ pub(crate) trait Opener {
     // It can be used.
     ghost is_ready: { Self.Database → Type 0 };
 
-    /// Opens the database in the file of that path.
-    fn open(&self, path: &str) -> Result<Self::Database, Cause>
-        ensures opens { opens self.now path.now result }
+    /// Opens the database in the file of that path. Nothing is promised of the opener then: what leaves it as it was opens none.
+    fn open(&mut self, path: &str) -> Result<Self::Database, Cause>
+        ensures opens { opens self.old path.now result }
         ensures file { IfOk result (is_in path.now) }
         ensures ready { IfOk result is_ready };
 

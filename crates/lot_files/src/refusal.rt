@@ -7,7 +7,7 @@ ghost use Rattle.lot_files.specs.Refusal.{TriesFiles, TriesLocated, TriesMissing
 ghost use Rattle.lot_files.specs.Refusal.{says_no_more, to_make, to_write};
 
 use crate::cause::Cause;
-use crate::file_system::FileSystem;
+use crate::file_maker::FileMaker;
 use crate::files::is_missing;
 use crate::keeper::Keeper;
 use crate::located::{Located, locate};
@@ -18,22 +18,23 @@ use std::fs::OpenOptions;
 
 /// Returns why the library opened no database in files that were opened, and that keep there why a
 /// call of them failed.
-pub(crate) fn why_over<F: FileSystem, K: Keeper>(
+pub(crate) fn why_over<F: FileMaker, K: Keeper>(
     fs: &F,
     alloc: Global,
     path: &str,
     error: Error,
     keeper: &K,
 ) -> Cause
-    ensures { IsWhyOver F.FileSystem K.Keeper fs.now keeper.now path.now error result }
+    ensures { IsWhyOver F.FileSystem F.FileMaker.opens K.Keeper
+        fs.now keeper.now path.now error result }
 {
     why(fs, alloc, path, error).or_of(cause_kept(keeper))
 }
 
 /// Returns why the library didn't open the book in the file of that path. Where it doesn't say so
 /// itself, the system is asked again what it was asked.
-pub(crate) fn why<F: FileSystem>(fs: &F, alloc: Global, path: &str, error: Error) -> Cause
-    ensures { IsWhy F.FileSystem fs.now path.now error result }
+pub(crate) fn why<F: FileMaker>(fs: &F, alloc: Global, path: &str, error: Error) -> Cause
+    ensures { IsWhy F.FileSystem F.FileMaker.opens fs.now path.now error result }
 {
     let cause = Cause::of_library(error);
     if !says_no_more(cause) {
@@ -51,8 +52,8 @@ fn says_no_more(cause: Cause) -> bool
 
 /// Returns why the system refuses the files of the book to which that path leads, or no more than that
 /// the library does.
-fn refusal<F: FileSystem>(fs: &F, alloc: Global, path: &str) -> Cause
-    ensures { IsRefusal F.FileSystem fs.now path.now result }
+fn refusal<F: FileMaker>(fs: &F, alloc: Global, path: &str) -> Cause
+    ensures { IsRefusal F.FileSystem F.FileMaker.opens fs.now path.now result }
 {
     match try_book(fs, alloc, path) {
         Ok(()) => Cause::Library(ErrorCode::CannotOpen),
@@ -62,16 +63,16 @@ fn refusal<F: FileSystem>(fs: &F, alloc: Global, path: &str) -> Cause
 
 /// Opens the files of the book to which that path leads, as the library does. One that is missing is
 /// made. The error is why the system refuses the first of them that it does.
-fn try_book<F: FileSystem>(fs: &F, alloc: Global, path: &str) -> Result<(), Cause>
-    ensures { TriesBook F.FileSystem fs.now path.now result }
+fn try_book<F: FileMaker>(fs: &F, alloc: Global, path: &str) -> Result<(), Cause>
+    ensures { TriesBook F.FileSystem F.FileMaker.opens fs.now path.now result }
 {
     try_missing(fs, path)?;
     try_located(fs, alloc, path)
 }
 
 /// Makes the file of that path, where it is missing.
-fn try_missing<F: FileSystem>(fs: &F, path: &str) -> Result<(), Cause>
-    ensures { TriesMissing F.FileSystem fs.now path.now result }
+fn try_missing<F: FileMaker>(fs: &F, path: &str) -> Result<(), Cause>
+    ensures { TriesMissing F.FileSystem F.FileMaker.opens fs.now path.now result }
 {
     if !is_missing(fs, path) {
         return Ok(());
@@ -80,24 +81,24 @@ fn try_missing<F: FileSystem>(fs: &F, path: &str) -> Result<(), Cause>
 }
 
 /// Opens the files of the book to which that path leads.
-fn try_located<F: FileSystem>(fs: &F, alloc: Global, path: &str) -> Result<(), Cause>
-    ensures { TriesLocated F.FileSystem fs.now path.now result }
+fn try_located<F: FileMaker>(fs: &F, alloc: Global, path: &str) -> Result<(), Cause>
+    ensures { TriesLocated F.FileSystem F.FileMaker.opens fs.now path.now result }
 {
     let files = locate(fs, alloc, path)?;
     try_files(fs, &files)
 }
 
 /// Opens the file of a book, and then its log.
-fn try_files<F: FileSystem>(fs: &F, files: &Located) -> Result<(), Cause>
-    ensures { TriesFiles F.FileSystem fs.now files.now result }
+fn try_files<F: FileMaker>(fs: &F, files: &Located) -> Result<(), Cause>
+    ensures { TriesFiles F.FileSystem F.FileMaker.opens fs.now files.now result }
 {
     try_file(fs, files.book.as_str())?;
     try_file(fs, files.log.as_str())
 }
 
 /// Opens a file, or makes it where nothing has the path.
-fn try_file<F: FileSystem>(fs: &F, path: &str) -> Result<(), Cause>
-    ensures { TriesFile F.FileSystem fs.now path.now result }
+fn try_file<F: FileMaker>(fs: &F, path: &str) -> Result<(), Cause>
+    ensures { TriesFile F.FileSystem F.FileMaker.opens fs.now path.now result }
 {
     if fs.symlink_metadata(path).is_err() {
         return Ok(fs.open(&to_make(), path)?);

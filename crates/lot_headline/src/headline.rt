@@ -7,8 +7,8 @@ ghost use Rattle.lot_book.specs.Edition.{After};
 ghost use Rattle.lot_book.specs.Facts.{Entry};
 ghost use Rattle.lot_cli.specs.Init.{IsMade};
 ghost use Rattle.lot_cli.specs.Preview.{Outcome, ServesWithPreview};
-ghost use Rattle.lot_cli.specs.Reopen.{StandsForOneOf};
-ghost use Rattle.lot_cli.specs.Sessions.{Sent, StopsLeave};
+ghost use Rattle.lot_cli.specs.Reopen.{LeavesOneOf, StandsForOneOf};
+ghost use Rattle.lot_cli.specs.Sessions.{Sent, SessionLeaves, StopsLeave};
 ghost use Rattle.lot_headline.specs.Calls.{CallsFollow, IsCall, IsFound, IsOnBook};
 ghost use Rattle.lot_headline.specs.Calls.{IsReopened, IsSettled};
 ghost use Rattle.lot_headline.specs.Headline.{Headline};
@@ -17,7 +17,7 @@ ghost use Rattle.lot_io.specs.Writes.{WriteCalls};
 ghost use Rattle.lot_stored.specs.StandFor.{Stands};
 ghost use Rattle.sqlite.specs.Files.{file_state};
 ghost use Rattle.sqlite.specs.Held.{Held};
-ghost use Rattle.sqlite.specs.State.{HasCleanDisk};
+ghost use Rattle.sqlite.specs.State.{HasCleanDisk, Survives};
 ghost use Rattle.sqlite_store.specs.declared.store.FileStore.{FileStore};
 
 use sqlite_disk::Disk;
@@ -69,4 +69,14 @@ pub fn what_is_served_alone_is_a_call<D: Disk>()
         → ServesWithPreview file_state action input Nothing opened before calls to
         → IsOnBook action → HasCleanDisk (file_state to.conn)
         → (sent : Sent) × IsCall opened to.conn sent }
+{}
+
+/// What only looks at a book behind a call, as what is said of it does, or a comparison with an old book, may leave the books
+/// that the call may leave, and no other.
+pub fn looking_leaves_what_a_call_left<D: Disk>()
+    ensures { (served left : Held (FileStore D D.Disk)) (before : List Entry) (sent : Sent)
+        → HasCleanDisk (file_state left)
+        → Survives (file_state served) (file_state left) (λ _. ⊥)
+        → LeavesOneOf (SessionLeaves before sent) (file_state served).may_leave
+        → LeavesOneOf (SessionLeaves before sent) (file_state left).may_leave }
 {}

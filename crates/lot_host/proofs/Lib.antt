@@ -1,2 +1,3 @@
+mod OpenedLemmas
 pub mod ImportLemmas
 pub mod OldLemmas

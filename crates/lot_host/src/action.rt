@@ -3,8 +3,8 @@
 ghost use Rattle.std.specs.Prelude.{◌≡◌, ◌⊎◌, ◌≤◌, ◌<◌, IfErr, IfOk, None, Some};
 ghost use Rattle.lot_files.specs.Path.{library_path};
 ghost use Rattle.lot_host.specs.Answers.{stopped};
-ghost use Rattle.lot_host.specs.Done.{ComesTo, ComesToOfNothing, ComesToOfPath, HasNoOld, IsDone};
-ghost use Rattle.lot_host.specs.Done.{IsItsOld, IsOldOf, IsReadOf, LacksOld};
+ghost use Rattle.lot_host.specs.Done.{ComesTo, ComesToOfNothing, ComesToOfPath, Ends, HasNoOld};
+ghost use Rattle.lot_host.specs.Done.{IsDone, IsItsOld, IsOldOf, IsReadOf, LacksOld};
 ghost use Rattle.lot_host.specs.Access.{old_of};
 ghost use Rattle.lot_host.specs.Stage.{IsBefore, IsUnopened, MayServe, MayTell, served_of};
 ghost use Rattle.lot_host.specs.declared.stage.Stage.TheVariants.{InCopy, InFile, OldOpened};
@@ -135,7 +135,7 @@ fn on_path<H: Host>(host: &mut H, task: &Task, path: &str, old: Option<H::Old>) 
 fn on_file<H: Host>(host: &mut H, task: &Task, file: H::Database, old: Option<H::Old>) -> u8
     requires ready { H.is_ready file }
     requires opened { H.stage host.old ≡ InFile }
-    ensures comes_to { ComesTo H.Host task.now.action task.now.effect old file result }
+    ensures comes_to { Ends H.Host task.now.action task.now.effect old file result }
     ensures over { H.stage host.new ≡ Over }
 {
     let (status, left) = done_on(host, task, file, old);
@@ -149,7 +149,7 @@ fn on_file<H: Host>(host: &mut H, task: &Task, file: H::Database, old: Option<H:
 fn on_copy<H: Host>(host: &mut H, task: &Task, copy: H::Database, old: Option<H::Old>) -> u8
     requires ready { H.is_ready copy }
     requires opened { H.stage host.old ≡ InCopy }
-    ensures comes_to { ComesTo H.Host task.now.action task.now.effect old copy result }
+    ensures comes_to { Ends H.Host task.now.action task.now.effect old copy result }
     ensures over { H.stage host.new ≡ Over }
 {
     let (status, _left) = done_on(host, task, copy, old);
@@ -166,7 +166,8 @@ fn done_on<H: Host>(
 ) -> (u8, H::Database)
     requires ready { H.is_ready database }
     requires opened { MayServe (H.stage host.old) }
-    ensures comes_to { ComesTo H.Host task.now.action task.now.effect old database result.0 }
+    ensures comes_to { ComesTo H.Host task.now.action task.now.effect old database
+        result.0 result.1 }
     ensures served { result.0 ≤ 1 → H.stage host.new ≡ served_of (H.stage host.old) }
     ensures over { 1 < result.0 → H.stage host.new ≡ Over }
 {

@@ -5,6 +5,8 @@ ghost use Rattle.std.specs.String.{string_bytes};
 ghost use Rattle.lot_args.specs.declared.action.Action.{Action as ActionOf};
 ghost use Rattle.lot_args.specs.declared.request.Effect.{Effect as EffectOf};
 ghost use Rattle.lot_files.specs.declared.cause.Cause.{Cause as CauseOf};
+ghost use Rattle.lot_files.specs.declared.opened.Access.{Access as AccessOf};
+ghost use Rattle.lot_files.specs.declared.opened.Opened.{Opened as OpenedOf};
 ghost use Rattle.lot_files.specs.Path.{library_path};
 ghost use Rattle.lot_host.specs.Answers.{IsStatusOf, stopped};
 ghost use Rattle.lot_host.specs.Stage.{MayOpen, MayServe, MayTell, served_of, stage_empty, stage_of};
@@ -46,6 +48,9 @@ pub trait Host {
     // The database is a copy of the one in the file of that path: nothing of it stays.
     ghost copies: { List ℕ → Self.Database → Type 0 };
 
+    // A file or a copy is opened for that, of that path.
+    ghost opens: { AccessOf → List ℕ → OpenedOf Self.Database → Type 0 };
+
     // The database is an empty one, of which nothing stays.
     ghost is_empty: { Self.Database → Type 0 };
 
@@ -74,8 +79,9 @@ pub trait Host {
     // The book in a database can't be taken up, which is told. The number is the status.
     ghost refuses_old: { Self.Database → ℕ → Type 0 };
 
-    // The book in a database, which was made with the first status, is compared with an old one. The second number is the status then.
-    ghost compares: { ℕ → Self.Database → Self.Old → ℕ → Type 0 };
+    // The book in the first database, which was made with the first status, is compared with an old one. The second number is the
+    // status then, and the second database is what is left of the first one.
+    ghost compares: { ℕ → Self.Database → Self.Old → ℕ → Self.Database → Type 0 };
 
     // The file of that path has the profile, which has the crumbs go there.
     ghost has_profile: { List ℕ → ProfileOf → Option RoundingOf → Type 0 };
@@ -115,6 +121,7 @@ pub trait Host {
     ) -> Result<Opened<Self::Database>, Cause>
         requires openable { is_openable path.now }
         requires stage { MayOpen part (stage self.old) }
+        ensures opens { IfOk result (opens access path.now) }
         ensures opened { IfOk result (IsOpenedFor is_in copies access path.now) }
         ensures ready { IfOk result (IsSo is_ready) }
         ensures stage { IfOk result (λ opened. stage self.new ≡ stage_of part opened) }
@@ -167,7 +174,7 @@ pub trait Host {
         old: Self::Old,
     ) -> (u8, Self::Database)
         requires { status ≤ 1 }
-        ensures compares { compares status database old result.0 }
+        ensures compares { compares status database old result.0 result.1 }
         ensures stage { result.0 ≤ 1 → stage self.new ≡ stage self.old }
         ensures over { 1 < result.0 → stage self.new ≡ Over };
 

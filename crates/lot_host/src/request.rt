@@ -17,6 +17,7 @@ pub fn run<H: Host>(host: &mut H, alloc: Global, words: Result<Vec<String>, u8>)
     ensures run { IfOk words (λ words. IsRun H.Host (map string_bytes words.items) result) }
     ensures over { IfOk words (λ _. H.stage host.new ≡ Over) }
     ensures unread { IfErr words (λ status. result ≡ status) }
+    ensures idle { IfErr words (λ _. host.new ≡ host.old) }
 {
     match words {
         Ok(words) => run_words(host, alloc, &words),

@@ -1,3 +1,4 @@
 pub mod Course
 pub mod Heard
+pub mod Output
 pub mod Record

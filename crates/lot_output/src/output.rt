@@ -1,8 +1,9 @@
 //! Standard output.
 
-ghost use Rattle.std.specs.Prelude.{◌≡◌, [], IsTrue, OnOk};
+ghost use Rattle.std.specs.Prelude.{◌≡◌, [], IsTrue, OnOk, false};
 ghost use Rattle.std.specs.Io.Buffered.{writer_buffer, writer_contents, writer_inner};
 ghost use Rattle.std.specs.Io.KnownBytes.{Keeps};
+ghost use Rattle.lot_output.specs.Output.{IsCutOff};
 
 use crate::meter::Meter;
 use crate::write_out::WriteOut;
@@ -54,6 +55,9 @@ impl<W: Write + Drop> Output<'_, W> {
         ensures writer { result.writer ≡ writer_inner self.entry.buffer }
         ensures whole { IsTrue result.is_whole → W.contents result.writer
             ≡ writer_contents W.contents self.entry.buffer }
+        ensures all { writer_buffer self.entry.buffer ≡ [] → IsTrue result.is_whole }
+        ensures cut { result.is_whole ≡ false → IsCutOff
+            (writer_contents W.contents self.entry.buffer) (W.contents result.writer) }
     {
         let Output { buffer, replies } = self;
         let mut replies = replies;

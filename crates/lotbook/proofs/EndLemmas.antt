@@ -14,6 +14,7 @@ use Rattle.lot_host.specs.Answers.{stopped}
 use Rattle.lot_input.specs.Input.{reading_between}
 use Rattle.lot_io.specs.Reads.{ReadCalls, no_reads}
 use Rattle.lot_io.specs.Writes.{WriteCalls, WritesMade, no_writes}
+use Rattle.lot_output.specs.Output.{IsCutOff}
 use Rattle.lot_profile.specs.declared.profile.Profile.{Profile}
 use Rattle.lot_store.specs.declared.fault.AdoptFault.{AdoptFault}
 use Rattle.lot_stream.specs.Status.{code_of}
@@ -60,16 +61,16 @@ shows_from_none profile input rest before written began read start end told unre
 
 -- a call that handed on all that it wrote ends with its own status, else it is stopped
 pub is_handed_on : (all : Bool) (end status : ℕ) (told written : Option (List ℕ)) → status ≡ (if all then end else stopped) → (IsTrue all → written ≡ told)
-    → IsHandedOn end told status written
-is_handed_on true end status told written ends same = inl (ends, same refl)
-is_handed_on false end status told written ends same = inr ends
+    → (all ≡ false → IsCutOff told written) → IsHandedOn end told status written
+is_handed_on true end status told written ends same cut = inl (ends, same refl)
+is_handed_on false end status told written ends same cut = inr (ends, cut refl)
 
 -- what ends beside a status does so where not all was handed on, too
 pub handed_on_beside : (served end status : ℕ) (told written : Option (List ℕ)) → IsHandedOn end told status written → IsStatusBeside served end
     → IsStatusBeside served status
 handed_on_beside served end status told written (inl all) (inl same) = inl (all.0 ∙ same)
 handed_on_beside served end status told written (inl all) (inr cut) = inr (all.0 ∙ cut)
-handed_on_beside served end status told written (inr cut) ends = inr cut
+handed_on_beside served end status told written (inr cut) ends = inr cut.0
 
 -- a database that is only looked at is left outside a transaction, as it was
 pub still_outside : (served left : State) → IsLookedAt served left → IsOutside served → IsOutside left

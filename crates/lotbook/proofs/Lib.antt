@@ -1,2 +1,3 @@
 pub mod EndLemmas
 pub mod OpenLemmas
+pub mod ReadLemmas

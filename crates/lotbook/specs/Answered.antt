@@ -7,12 +7,13 @@ use Rattle.lot_args.specs.declared.request.Preview.{Preview}
 use Rattle.lot_call.specs.Looks.{IsLookedAt}
 use Rattle.lot_cli.specs.Preview.{ServesWithPreview, outcome}
 use Rattle.lot_cli.specs.Says.{told}
-use Rattle.lot_cli.specs.Serve.{EndsWith}
+use Rattle.lot_cli.specs.Serve.{EndsWith, ReadsNothing}
 use Rattle.lot_cli.specs.declared.halt.Halt.{Halt}
 use Rattle.lot_host.specs.Answers.{stopped}
 use Rattle.lot_input.specs.Input.{reading_between}
 use Rattle.lot_io.specs.Reads.{ReadCalls, ReadsMade, no_reads}
 use Rattle.lot_io.specs.Writes.{WriteCalls, WritesMade, no_writes}
+use Rattle.lot_output.specs.Output.{IsCutOff}
 
 -- the first calls of a reader, and of a writer
 abbrev pub reads_from_none : ReadCalls → ReadsMade
@@ -21,10 +22,10 @@ reads_from_none calls = record { before = Some no_reads; after = Some calls }
 abbrev pub writes_from_none : WriteCalls → WritesMade
 writes_from_none calls = record { before = Some no_writes; after = Some calls }
 
--- The writer holds all that a call wrote that ended with a status, and that is the status of the program. Or it doesn't, and the
--- program is stopped.
+-- The writer holds all that a call wrote that ended with a status, and that is the status of the program. Or something of it is
+-- missing there, and the program is stopped.
 abbrev pub IsHandedOn : ℕ → Option (List ℕ) → ℕ → Option (List ℕ) → Type 0
-IsHandedOn end told status written = ((status ≡ end) × (written ≡ told)) ⊎ (status ≡ stopped)
+IsHandedOn end told status written = ((status ≡ end) × (written ≡ told)) ⊎ ((status ≡ stopped) × IsCutOff told written)
 
 -- nothing is left open in a database, on a disk that returned what was written
 abbrev pub IsOutside : State → Type 0
@@ -39,6 +40,8 @@ module _ {C : Type 0} (shows : C → State) where
         (outcome left written writes.after (told status halt))
     pub outside : IsOutside (shows left)
     pub ends : EndsWith action status
+    -- an action that needs no input reads none
+    pub unread : ReadsNothing action → (rest ≡ input) × (reads.after ≡ reads.before)
 
   -- The same of an input, from its first byte on, and of a writer, which then holds what was written, or the status is that of a
   -- call that is stopped. The database is only looked at then, and no transaction is open there.

@@ -1,13 +1,15 @@
 -- What a comparison of a new book with an old one comes to, and what a book that can't be taken up comes to.
-use Rattle.std.specs.Prelude.{◌≡◌, ◌⊎◌, ℕ, Bool, List, Option, Result, Ok, Err, IsTrue, None, Some}
+use Rattle.std.specs.Prelude.{◌≡◌, ◌≢◌, ◌⊎◌, ℕ, Bool, List, Option, Result, Ok, Err, IsTrue, None, Some}
 use Rattle.sqlite.specs.Held.{Held, state}
-use Rattle.sqlite.specs.State.{HasCleanDisk}
+use Rattle.sqlite.specs.State.{HasCleanDisk, State, Survives}
 use Rattle.sqlite.specs.Store.{Ghosts}
+use Rattle.lot_call.specs.Looks.{IsLookedAt}
 use Rattle.lot_cli.specs.Differ.{TellsDifferences}
 use Rattle.lot_cli.specs.Says.{Halts, told}
 use Rattle.lot_cli.specs.declared.halt.Halt.TheVariants as halt
 use Rattle.lot_io.specs.Writes.{WriteCalls}
 use Rattle.lot_store.specs.Create.{TellsOf}
+use Rattle.lot_store.specs.Step.{LeavesTables}
 use Rattle.lot_store.specs.declared.book.Book.{Book}
 use Rattle.lot_store.specs.declared.fault.AdoptFault.{AdoptFault}
 use Rattle.lot_store.specs.declared.fault.AdoptFault.TheVariants.{NotABook}
@@ -31,13 +33,29 @@ pub record IsReported (fault : AdoptFault) (status : ℕ) : Type 0 where
 
 -- a new book isn't taken up for that reason: nothing is told where none was made, else it is reported
 abbrev pub IsNoneTold : AdoptFault → ℕ → ℕ → Type 0
-IsNoneTold fault served status = ((fault ≡ NotABook) × (status ≡ served)) ⊎ IsReported fault status
+IsNoneTold fault served status = ((fault ≡ NotABook) × (status ≡ served)) ⊎ ((fault ≢ NotABook) × IsReported fault status)
 
 -- a connection whose statements may take any number of steps
 abbrev pub unlimited : {S : Type 0} → Held S → Held S
 unlimited conn = record conn { step_limit = None }
 
+-- A book is only read: while the connection is open it shows what it showed, and the last commit stays. A crash leaves no more than
+-- before.
+pub record IsOnlyRead (old new : State) : Type 0 where
+  pub left : HasCleanDisk new → LeavesTables old new
+  pub crash : Survives old new (λ _. ⊥)
+
 module _ {S : Type 0} (g : Ghosts S) where
+  -- a database is looked at, and the book that it holds is then only read, where it holds one
+  pub record IsReadBeside (opened left : Held S) : Type 0 where
+    pub taken : Held S
+    pub looked : IsLookedAt (state g (unlimited opened)) (state g taken)
+    pub read : IsOnlyRead (state g taken) (state g left)
+
+  -- it is read beside another book, or it isn't touched
+  abbrev pub MayBeRead : Held S → Held S → Type 0
+  MayBeRead opened left = IsReadBeside opened left ⊎ (left ≡ opened)
+
   -- whether the database of a connection is a book, which leaves it so
   abbrev pub Adopts : Held S → Held S → Result (Unit {0}) AdoptFault → Type 0
   Adopts opened left result = HasCleanDisk (state g left) → TellsOf (state g opened) (state g left) result
@@ -55,6 +73,14 @@ module _ {S : Type 0} (g : Ghosts S) where
     pub fault : AdoptFault
     pub left : Held S
     pub none : ShowsNone opened left fault
+    pub reported : IsReported fault status
+
+  -- the new one isn't, though there is a book, and why is reported
+  pub record IsNewRefused (opened : Held S) (status : ℕ) : Type 0 where
+    pub fault : AdoptFault
+    pub left : Held S
+    pub none : ShowsNone opened left fault
+    pub other : fault ≢ NotABook
     pub reported : IsReported fault status
 
   -- no new book was made, so that nothing is compared
@@ -100,4 +126,4 @@ module _ {S T : Type 0} (g : Ghosts S) (h : Ghosts T) where
 
   -- What a comparison comes to. Nothing is compared where no new book was made.
   pub record IsCompared (opened : Held S) (old : Held T) (served status : ℕ) : Type 0 where
-    pub comes_to : IsMade opened old served status ⊎ IsNotMade g opened served status ⊎ IsRefused g opened status
+    pub comes_to : IsMade opened old served status ⊎ IsNotMade g opened served status ⊎ IsNewRefused g opened status

@@ -3,9 +3,12 @@
 ghost use Rattle.std.specs.Prelude.{◌≡◌, ◌≤◌, IfErr, IfOk, None, false};
 ghost use Rattle.std.specs.Io.Buffered.{writer_contents};
 ghost use Rattle.sqlite.specs.Files.{over_files};
+ghost use Rattle.sqlite.specs.Held.{state};
+ghost use Rattle.lot_call.specs.Looks.{IsLookedAt};
 ghost use Rattle.lot_host.specs.Answers.{stopped};
 ghost use Rattle.lot_stream.specs.Status.{code_of};
-ghost use Rattle.lotbook.specs.Compared.{IsCompared, IsNoneTold, IsRefused, IsReported};
+ghost use Rattle.lotbook.specs.Compared.{IsCompared, IsNoneTold, IsOnlyRead, IsReadBeside};
+ghost use Rattle.lotbook.specs.Compared.{IsRefused, IsReported, MayBeRead};
 ghost use Rattle.lotbook.specs.Compared.{IsTakenUp, IsToldBeside, Reports, ShowsNone, TellsBeside, WritesBeside};
 ghost use Rattle.lotbook.specs.Compared.{unlimited};
 ghost use Rattle.lotbook.specs.Statuses.{IsStatusBeside};
@@ -23,18 +26,25 @@ use sqlite::{Alter, Connection};
 use std::io::Write;
 
 /// Takes up the book in a database, that of the path, to be read. Where that can't be done a line on standard output says so, and
-/// one on standard error why; the error is the status of the program.
-pub fn take_up<S: Alter + Drop>(
+/// one on standard error why; the error is the status of the program, with the connection.
+pub fn take_up<S: Alter>(
     call: &Call<'_>,
     path: &str,
     conn: Connection<S>,
-) -> Result<Connection<S>, u8>
+) -> Result<Connection<S>, (u8, Connection<S>)>
     ensures taken { IfOk result (IsTakenUp S.Store (unlimited conn)) }
-    ensures refused { IfErr result (IsRefused S.Store conn) }
+    ensures refused { IfErr result (λ left. IsRefused S.Store conn left.0) }
+    ensures looked { IfOk result (λ left.
+        IsLookedAt (state S.Store (unlimited conn)) (state S.Store left)) }
+    ensures handed_back { IfErr result (λ left.
+        IsLookedAt (state S.Store (unlimited conn)) (state S.Store left.1)) }
 {
     match book_in(call, conn) {
         Ok(book) => Ok(book.into_connection()),
-        Err(HandedBack { fault, mut conn }) => Err(refuse(call, path, fault, &mut conn)),
+        Err(HandedBack { fault, mut conn }) => {
+            let status = refuse(call, path, fault, &mut conn);
+            Err((status, conn))
+        }
     }
 }
 
@@ -45,15 +55,19 @@ fn book_in<S: Alter>(
 ) -> Result<Book<S>, HandedBack<S, AdoptFault>>
     ensures taken { IfOk result (λ book. IsTakenUp S.Store (unlimited conn) book.conn) }
     ensures none { IfErr result (λ left. ShowsNone S.Store conn left.conn left.fault) }
+    ensures looked { IfOk result (λ book.
+        IsLookedAt (state S.Store (unlimited conn)) (state S.Store book.conn)) }
+    ensures handed_back { IfErr result (λ left.
+        IsLookedAt (state S.Store (unlimited conn)) (state S.Store left.conn)) }
 {
     let mut conn = conn;
+    conn.set_step_limit(None);
     if !conn.is_autocommit() {
         return Err(HandedBack {
             fault: AdoptFault::NotABook,
             conn,
         });
     }
-    conn.set_step_limit(None);
     adopt(call.rt.alloc(), conn)
 }
 
@@ -61,6 +75,7 @@ fn book_in<S: Alter>(
 fn refuse<S: Alter>(call: &Call<'_>, path: &str, fault: AdoptFault, conn: &mut Connection<S>) -> u8
     ensures reported { IsReported fault result }
     ensures stops { result ≡ stopped }
+    ensures looked { IsLookedAt (state S.Store conn.old) (state S.Store conn.new) }
 {
     let status = say_refusal(call.rt, fault);
     if call.is_quiet() {
@@ -95,23 +110,28 @@ fn write_refusal<W: Write + Drop>(output: Output<'_, W>, fault: AdoptFault) -> (
 }
 
 /// Writes how the book that was made of a dump differs from an old one, and nothing where none was made. Returns the
-/// status of the program, which was that before, and the connection.
-pub fn show_differences<S: Alter>(
+/// status of the program, which was that before, the connection, and the database of the old one.
+pub fn show_differences<'a, S: Alter>(
     call: &Call<'_>,
     status: u8,
     conn: Connection<S>,
-    old: Database<'_>,
-) -> (u8, Connection<S>)
+    old: Database<'a>,
+) -> (u8, Connection<S>, Database<'a>)
     requires { status ≤ 1 }
     ensures told { IsCompared S.Store over_files conn old.entry.conn status result.0 }
     ensures ends { IsStatusBeside status result.0 }
+    ensures left { IsReadBeside S.Store conn result.1 }
+    ensures old_left { MayBeRead over_files old.entry.conn result.2.conn }
 {
     match book_in(call, conn) {
         Ok(mut new) => {
-            let status = show_beside(call, status, &mut new, old);
-            (status, new.into_connection())
+            let (status, old) = show_beside(call, status, &mut new, old);
+            (status, new.into_connection(), old)
         }
-        Err(left) => show_none(call, status, left),
+        Err(left) => {
+            let (status, conn) = show_none(call, status, left);
+            (status, conn, old)
+        }
     }
 }
 
@@ -124,6 +144,7 @@ fn show_none<S: Alter>(
     requires { status ≤ 1 }
     ensures told { IsNoneTold left.fault status result.0 }
     ensures ends { IsStatusBeside status result.0 }
+    ensures looked { IsLookedAt (state S.Store left.conn) (state S.Store result.1) }
 {
     let HandedBack { fault, conn } = left;
     match fault {
@@ -136,20 +157,30 @@ fn show_none<S: Alter>(
     }
 }
 
-/// Writes how a new book differs from an old one, and returns the status.
-fn show_beside<S: Alter>(call: &Call<'_>, status: u8, new: &mut Book<S>, old: Database<'_>) -> u8
+/// Writes how a new book differs from an old one. Returns the status, and the database of the old one.
+fn show_beside<'a, S: Alter>(
+    call: &Call<'_>,
+    status: u8,
+    new: &mut Book<S>,
+    old: Database<'a>,
+) -> (u8, Database<'a>)
     requires { status ≤ 1 }
-    ensures told { IsToldBeside S.Store over_files new.old old.entry.conn status result }
-    ensures ends { IsStatusBeside status result }
+    ensures told { IsToldBeside S.Store over_files new.old old.entry.conn status result.0 }
+    ensures ends { IsStatusBeside status result.0 }
+    ensures new_left { IsOnlyRead (state S.Store new.old.conn) (state S.Store new.new.conn) }
+    ensures old_left { IsReadBeside over_files old.entry.conn result.1.conn }
 {
     let path = old_of(call.action).unwrap_or("");
     match book_in(call, old.conn) {
         Ok(mut old) => {
             let status = write_differences(call, status, new, &mut old);
-            let _read = old.into_connection();
-            status
+            let conn = old.into_connection();
+            (status, Database { conn })
         }
-        Err(HandedBack { fault, mut conn }) => refuse(call, path, fault, &mut conn),
+        Err(HandedBack { fault, mut conn }) => {
+            let status = refuse(call, path, fault, &mut conn);
+            (status, Database { conn })
+        }
     }
 }
 
@@ -163,6 +194,8 @@ fn write_differences<S: Alter, T: Alter>(
     requires { status ≤ 1 }
     ensures told { TellsBeside S.Store T.Store new.old old.old status result }
     ensures ends { IsStatusBeside status result }
+    ensures new_left { IsOnlyRead (state S.Store new.old.conn) (state S.Store new.new.conn) }
+    ensures old_left { IsOnlyRead (state T.Store old.old.conn) (state T.Store old.new.conn) }
 {
     let (status, _stdout) = write_beside(call, status, new, old, buffered(call.rt));
     status
@@ -180,6 +213,8 @@ fn write_beside<S: Alter, T: Alter, W: Write + Drop>(
     ensures told { WritesBeside S.Store T.Store new.old old.old
         (writer_contents W.contents output.entry.buffer) (W.contents result.1) status result.0 }
     ensures ends { IsStatusBeside status result.0 }
+    ensures new_left { IsOnlyRead (state S.Store new.old.conn) (state S.Store new.new.conn) }
+    ensures old_left { IsOnlyRead (state T.Store old.old.conn) (state T.Store old.new.conn) }
 {
     let alloc = call.rt.alloc();
     let mut writer = CountedWriter::new(Witness::new(alloc, output, call.most()));

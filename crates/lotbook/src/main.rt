@@ -17,7 +17,7 @@ mod system;
 
 use crate::stack::grow_stack;
 use crate::system::System;
-use lot_call::{out_of_memory, words};
+use lot_call::{out_of_memory, read_words, words_of};
 use lot_files::Failure;
 use lot_host::run;
 use std::process::ExitCode;
@@ -28,5 +28,6 @@ fn main(rt: HostRuntime) -> ExitCode {
     }
     let failure = Failure::none();
     let mut system = System::new(&rt, &failure);
-    ExitCode::from(run(&mut system, rt.alloc(), words(&rt)))
+    let words = words_of(&rt, read_words(&rt));
+    ExitCode::from(run(&mut system, rt.alloc(), words))
 }

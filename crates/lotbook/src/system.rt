@@ -4,7 +4,8 @@ ghost use Rattle.std.specs.Prelude.{◌≡◌, ◌≤◌, ◌<◌, Err, IfErr, I
 ghost use Rattle.sqlite.specs.Files.{file_state, over_files};
 ghost use Rattle.lot_args.specs.Preview.{preview_of};
 ghost use Rattle.lotbook.specs.Answered.{AnswersOnSome};
-ghost use Rattle.lotbook.specs.Compared.{IsCompared, IsRefused, IsTakenUp, unlimited};
+ghost use Rattle.lotbook.specs.Compared.{IsCompared, IsReadBeside, IsRefused, IsTakenUp};
+ghost use Rattle.lotbook.specs.Compared.{unlimited};
 ghost use Rattle.lotbook.specs.Opened.{Refuses};
 ghost use Rattle.lotbook.specs.Shown.{IsExportShown};
 ghost use Rattle.lotbook.specs.Statuses.{IsRefusal, IsSaid};
@@ -13,8 +14,9 @@ ghost use Rattle.lot_files.specs.Opener.{OpensFor};
 ghost use Rattle.lot_files.specs.Opening.{IsCopyAt, IsInFile, OpensNothing, opener_over};
 ghost use Rattle.lot_files.specs.Path.{has_long_name};
 ghost use Rattle.lot_files.specs.Shown.{AllowsBook, ShowsMissing};
-ghost use Rattle.lot_files.specs.System.{system_gives};
+ghost use Rattle.lot_files.specs.System.{system_gives, system_makes};
 ghost use Rattle.lot_files.specs.declared.opened.Database.{Database as DatabaseOf};
+ghost use Rattle.lot_call.specs.Looks.{IsLookedAt};
 ghost use Rattle.lot_call.specs.Told.{Tells};
 ghost use Rattle.lot_host.specs.Answers.{stopped};
 ghost use Rattle.lot_host.specs.Stage.{stage_empty, stage_of};
@@ -97,10 +99,14 @@ impl<'a> Host for System<'a> {
     type Old = Database<'a>;
 
     ghost is_in = { IsInFile (λ (database : DatabaseOf). database.conn)
-        ⟦<HostRuntime as FileSystem>⟧ system_gives };
+        ⟦<HostRuntime as FileSystem>⟧ system_makes system_gives };
 
     ghost copies = { IsCopyAt (λ (database : DatabaseOf). database.conn)
         ⟦<HostRuntime as FileSystem>⟧ };
+
+    ghost opens = { λ access path opened. (rt : _) × OpensFor (opener_over
+        (λ (database : DatabaseOf). database.conn) ⟦<HostRuntime as FileSystem>⟧ system_makes
+        system_gives) rt access path (Ok opened) };
 
     ghost is_empty = { λ database.
         OpensNothing (λ (database : DatabaseOf). database.conn) (Ok database) };
@@ -116,8 +122,8 @@ impl<'a> Host for System<'a> {
         (λ cause. OpensNothing (λ (database : DatabaseOf). database.conn) (Err cause))
         (λ path cause. (rt : _) × AllowsBook ⟦<HostRuntime as FileSystem>⟧ rt path (Err cause))
         (λ access path cause. (rt : _) × OpensFor (opener_over
-        (λ (database : DatabaseOf). database.conn) ⟦<HostRuntime as FileSystem>⟧ system_gives)
-        rt access path (Err cause)) };
+        (λ (database : DatabaseOf). database.conn) ⟦<HostRuntime as FileSystem>⟧ system_makes
+        system_gives) rt access path (Err cause)) };
 
     ghost tells_unopened = { λ _ status. status ≡ stopped };
 
@@ -125,12 +131,14 @@ impl<'a> Host for System<'a> {
         AnswersOnSome (λ conn. file_state conn) action (preview_of effect)
         opened.conn left.conn status };
 
-    ghost is_old = { λ opened old. IsTakenUp over_files (unlimited opened.conn) old.conn };
+    ghost is_old = { λ opened old. IsTakenUp over_files (unlimited opened.conn) old.conn
+        × IsLookedAt (file_state (unlimited opened.conn)) (file_state old.conn) };
 
     ghost refuses_old = { λ opened status. IsRefused over_files opened.conn status };
 
-    ghost compares = { λ served opened old status.
-        IsCompared over_files over_files opened.conn old.conn served status };
+    ghost compares = { λ served opened old status left.
+        IsCompared over_files over_files opened.conn old.conn served status
+        × IsReadBeside over_files opened.conn left.conn };
 
     ghost has_profile = { λ _ profile rounding. IsSaid profile rounding };
 
@@ -205,7 +213,7 @@ impl<'a> Host for System<'a> {
                 self.stage = Stage::OldTaken;
                 Ok(Database { conn })
             }
-            Err(status) => {
+            Err((status, _conn)) => {
                 self.stage = Stage::Over;
                 Err(status)
             }
@@ -219,7 +227,7 @@ impl<'a> Host for System<'a> {
         database: Self::Database,
         old: Self::Old,
     ) -> (u8, Self::Database) {
-        let (status, conn) = show_differences(&self.call(task), status, database.conn, old);
+        let (status, conn, _old) = show_differences(&self.call(task), status, database.conn, old);
         self.stage = stage_behind(self.stage, status);
         (status, Database { conn })
     }

@@ -11,6 +11,7 @@ returns-in-Ok-clause-opens g c = record {
   noted = c.noted.result;
   are = c.noted.ensures.same;
   opens = record { found = c.in-Ok.ensures.found; fails = search rules };
+  marked = rw c.options_of.ensures.seed at c.in-Ok.ensures.marked;
 }
 
 pub returns-in-Err-clause-opens : goal.returns-in-Err-clause-opens
@@ -22,8 +23,9 @@ returns-in-Err-clause-opens g c = record {
     fails = (
       c.in-Err.error,
       c.in-Err._left,
-      c.in-Err.ensures.cause,
-      kept_why _ _ _ _ _ _ _ c.why_over.ensures,
+      c.in-Err.ensures.fails,
+      kept_why _ _ _ _ _ c.args.failure.now (λ kept is. is) _ _ _ c.why_over.ensures,
     );
   };
+  marked = search rules;
 }

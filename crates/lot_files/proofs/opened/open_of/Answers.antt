@@ -6,6 +6,6 @@ use Rattle.lot_files.proofs.opened.open_of.Goals as goal
 
 pub returns-clause-opens : goal.returns-clause-opens
 returns-clause-opens g c =
-    opens_as _ (opener_over (λ (database : Database). database.conn) g.S.FileSystem g.S.FileOpener) _ c.args.system.now
-    (λ path result is. is) (λ path result is. is) (λ path empty is. is) c.args.access c.args.path.now c.open_for.result
-    c.open_for.ensures.opens
+    opens_as _ (opener_over (λ (database : Database). database.conn) g.S.FileSystem g.S.FileMaker.opens g.S.FileOpener)
+    (λ opener. opener.system.now) (λ opener path result is. is) (λ opener path result is. is) (λ opener path empty is. is)
+    _ c.args.access c.args.path.now c.open_for.result c.open_for.ensures.opens

@@ -16,7 +16,8 @@ returns g c = record {
   served = c.do_quietly-status.result.conn;
   serves = rw (c.new-reader.ensures.reader, c.new-reader.ensures.counts, c.new-writer.ensures.writer, c.new.ensures, c.new-appraiser.ensures, c.new-forewarner.ensures, c.new-writer.ensures.calls) at c.do_quietly-status.ensures;
   handed_on = is_handed_on _ _ _ _ _ c.status_behind.ensures
-      (rw (c.into_writer-output.ensures, c.say_unpriced.ensures, c.into_parts-appraiser.ensures.writer, c.into_writer.ensures) at c.end-writer.ensures.whole);
+      (rw (c.into_writer-output.ensures, c.say_unpriced.ensures, c.into_parts-appraiser.ensures.writer, c.into_writer.ensures) at c.end-writer.ensures.whole)
+      (rw (c.into_writer-output.ensures, c.say_unpriced.ensures, c.into_parts-appraiser.ensures.writer, c.into_writer.ensures) at c.end-writer.ensures.cut);
   looked = c.speak.ensures;
   outside = still_outside (state g.S.Store c.do_quietly-status.result.conn) (state g.S.Store c.speak.new.conn) c.speak.ensures c.do_quietly-status.ensures.outside;
 }

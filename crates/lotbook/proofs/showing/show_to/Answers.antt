@@ -17,5 +17,6 @@ returns g c = record {
       (counts_of c.new-reader.result.reader) (counts_of c.show-shown.new.reader.reader) (calls_of c.new-writer.result) (calls_of c.show-shown.new.writer)
       (told c.show-shown.result.status c.show-shown.result.halt) c.new-reader.ensures.counts c.new-writer.ensures.calls
       (rw (c.new-reader.ensures.reader, c.new-writer.ensures.writer, c.new.ensures) at c.show-shown.ensures.shows);
-  handed_on = is_handed_on _ _ _ _ _ c.status_behind.ensures (rw (c.into_parts-output.ensures.writer, c.into_writer.ensures) at c.end-writer.ensures.whole);
+  handed_on = is_handed_on _ _ _ _ _ c.status_behind.ensures (rw (c.into_parts-output.ensures.writer, c.into_writer.ensures) at c.end-writer.ensures.whole)
+      (rw (c.into_parts-output.ensures.writer, c.into_writer.ensures) at c.end-writer.ensures.cut);
 }

@@ -5,5 +5,5 @@ use Rattle.lot_files.proofs.opened.SystemOpenerOpener.open.Goals as goal
 
 pub returns-clause-file : goal.returns-clause-file
 returns-clause-file g c =
-    in_file (λ (database : Database). database.conn) g.S.FileSystem g.S.FileOpener c.args.self.now.system.now c.args.path.now
+    in_file (λ (database : Database). database.conn) g.S.FileSystem g.S.FileMaker.opens g.S.FileOpener c.args.self.now.system.now c.args.path.now
     c.open.result c.open.ensures.opens c.open.ensures.over
